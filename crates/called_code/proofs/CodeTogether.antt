@@ -2,10 +2,10 @@
 use Rattle.std.proofs.Common.{◌≡◌, ℕ, zero, suc, ◌+◌, ◌<◌, ℤ, pos, negsuc, Bool, true, false, cond, List, [], ◌∷◌, ◌++◌}
 use Rattle.std.proofs.Common.{Option, Some, None, refl, arith}
 use Rattle.scalar_ranges.specs.Moves.{Known}
-use Rattle.code_pieces.specs.Pieces.{Piece, Jump, Code, written, before, then_code, closed_by}
+use Rattle.code_pieces.specs.Pieces.{Piece, Jump, Code, before, then_code, closed_by}
 use Rattle.line_pieces.specs.Actions.{test_code}
 use Rattle.line_pieces.specs.Declarations.{Frame}
-use Rattle.code_generator.specs.Processes.{Site, row_of, with_row, is_true, PlacedChoice, PlacedChoices, NoChoice}
+use Rattle.code_generator.specs.Processes.{Site, row_of, is_true, PlacedChoice, PlacedChoices, NoChoice}
 use Rattle.code_generator.specs.Processes.{ThenChoice, IfEnding, Stops, Always, Opens, EndedChoices, taken_code}
 use Rattle.code_generator.specs.Processes.{tested_code, all_tested, ending_code, choices_code, with_ending, opening}
 use Rattle.code_generator.specs.Processes.{if_code, loop_start, loop_end, loop_code, has_scalar, no_loop}
@@ -33,12 +33,6 @@ pub then_has : (code : Option Code) (next : ℕ → Option Code) → HasCode cod
     → HasCode (then_code code next)
 then_has None next h all = h
 then_has (Some c) next h all = before_has c.pieces (next c.labels) (all c.labels)
-
-pub row_has : (finer : Bool) (f : Frame) (k : Known) (code : Option Code) → HasCode code
-    → HasCode (with_row finer f k code)
-row_has false f k code h = h
-row_has true f k code h =
-    then_has code (λ label. written (row_of label f k ∷ []) (label + 1)) h (λ label. tt)
 
 -- ---- choices of an IF, whose processes have code where these are chosen
 

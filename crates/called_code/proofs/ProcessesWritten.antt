@@ -19,7 +19,6 @@ use Rattle.program_uses.specs.Signatures.{Parameter}
 use Rattle.program_meaning.specs.Sequential.{IsSequentialWord}
 use Rattle.usage_checks.specs.declared.channel_rules.Position.{Position}
 use Rattle.usage_checks.specs.AfterProcesses.{begun, ended, begun_body, after_components, after_body}
-use Rattle.usage_checks.specs.Following.{after_action}
 use Rattle.usage_checks.specs.Holding.{InstanceHolds}
 use Rattle.usage_checks.specs.ItemRules.{BreaksNoRule}
 use Rattle.usage_checks.specs.NameRules.{with_entries}
@@ -32,15 +31,14 @@ use Rattle.usage_checks.proofs.PlacesHold.{places_hold}
 use Rattle.usage_checks.proofs.RangesStay.{covers_itself, components_stay, component_stays, turns_turned}
 use Rattle.line_pieces.specs.Declarations.{Frame, with_home, declaration_code}
 use Rattle.line_pieces.specs.Homes.{Nowhere}
-use Rattle.code_generator.specs.Instances.{is_finer}
-use Rattle.code_generator.specs.Processes.{Site, Surroundings, with_declaration, at_place, called, line_code, act_code}
+use Rattle.code_generator.specs.Processes.{Site, Surroundings, with_declaration, at_place, called, line_code}
 use Rattle.code_generator.specs.Processes.{PlacedChoice, with_ending, with_opening, if_code, in_loop, value_or_zero}
 use Rattle.code_generator.specs.Processes.{loop_code, repeated_seq, by_block, times, turned, turn_begun, in_each_turn}
 use Rattle.code_generator.specs.Processes.{process_code, construct_code, body_code, components_code, component_code}
 use Rattle.code_generator.specs.Processes.{placed_choices, placed}
 use Rattle.called_code.specs.CalledCode.{HasNoPar, ConstructHasNoPar, BodyHasNoPar, HaveNoPar, ComponentHasNoPar}
 use Rattle.called_code.specs.CalledCode.{Calls, IsCalled, called_is}
-use Rattle.called_code.proofs.CodeTogether.{HasCode, before_has, then_has, row_has, HasProcess, AllHave, ending_has}
+use Rattle.called_code.proofs.CodeTogether.{HasCode, before_has, then_has, HasProcess, AllHave, ending_has}
 use Rattle.called_code.proofs.CodeTogether.{opening_has, if_has, turns_have, repeated_has, loop_has}
 use Rattle.called_code.proofs.OuterNames.{AreStill, Keeps, declared_keeps, named_keeps, remains_keeps, turned_keeps}
 use Rattle.called_code.proofs.OuterNames.{chosen_keeps, loop_keeps}
@@ -99,15 +97,6 @@ line_has v pos first line Stop s r k = tt
 line_has v pos first line (Assign target value) s r k = tt
 line_has v pos first line (Input channel target) s r k = tt
 line_has v pos first line (Output channel value) s r k = tt
-
-act_has : {items : List ProgramItem} {w : Surroundings} {g : List Entry} → Ground items w g → (pos : Position)
-    (first line : ℕ) (action : Action) (s : Site)
-    → Reaches items (standing_at w pos) (AProcess first (Does line (Act action))) s.known → Keeps g s.known
-    → HasCode (act_code w action s)
-act_has {w = w} v pos first line action s r k =
-    row_has (is_finer s.frame.homes s.known.entries s.frame.top action) s.frame
-    (with_entries (after_action w.around.signatures action) s.known) (line_code w action s)
-    (line_has v pos first line action s r k)
 
 -- ---- components, whose processes have code where the walk comes to them
 
@@ -265,7 +254,7 @@ mutual
       → (pos : Position) (first line : ℕ) (c : Construct) → ConstructHasNoPar c → (s : Site)
       → Reaches items (standing_at w pos) (AProcess first (Does line c)) s.known → Keeps g s.known
       → HasCode (construct_code w line c s)
-  construct_has v pos first line (Act action) h s r k = act_has v pos first line action s r k
+  construct_has v pos first line (Act action) h s r k = line_has v pos first line action s r k
   construct_has {w = w} v pos first line (Block kind cs) h s r k =
       let word = block_word kind in
       let inner = position_in word (length s.known.entries) pos in

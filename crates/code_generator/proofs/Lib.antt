@@ -15,7 +15,6 @@ pub mod PartsExceed
 pub mod PartsWritten
 pub mod SequentialCode
 pub mod SkipsSeen
-pub mod TablesRead
 pub mod TurnsWritten
 pub mod WordsForgotten
 pub mod WorkedCode

@@ -1,12 +1,12 @@
 -- If a part of a process is too much, so is the process: what `proofs/Exceeding` says, for each construct.
-use Rattle.std.proofs.Common.{◌≡◌, ◌≢◌, ℕ, ◌+◌, ◌<◌, Bool, List, [], ◌∷◌, ◌++◌, length, map, take, get_or, Option}
-use Rattle.std.proofs.Common.{Bor, sym, ap, subst, ◌∙◌, arith, add-one}
+use Rattle.std.proofs.Common.{◌≡◌, ◌≢◌, ℕ, ◌+◌, ◌<◌, List, [], ◌∷◌, ◌++◌, length, map, take, get_or, Option}
+use Rattle.std.proofs.Common.{Bor, sym, ap, subst, arith, add-one}
 use Rattle.std.proofs.lemmas.List.{take_all, get_or_default}
 use Rattle.occam_layout.specs.declared.mark.Mark.TheVariants as mark
 use Rattle.occam_parser.specs.declared.tree.Choice.{Choice}
 use Rattle.occam_parser.specs.Terminals.{Mark}
 use Rattle.occam_parser.specs.Expressions.{Expression}
-use Rattle.occam_parser.specs.Lines.{Declaration, Action}
+use Rattle.occam_parser.specs.Lines.{Declaration}
 use Rattle.occam_parser.specs.Blocks.{Process, Does, Construct, Part, Choices, Components, Component, Chosen}
 use Rattle.occam_parser.specs.BlockReading.{with_declarations}
 use Rattle.occam_parser.specs.BlockViews.{all_of, choice_of, all_choices}
@@ -20,9 +20,8 @@ use Rattle.program_uses.specs.Indices.{Repeats, index_in}
 use Rattle.program_uses.specs.InTurn.{in_turn}
 use Rattle.program_uses.proofs.Adding.{taken_one}
 use Rattle.usage_checks.specs.AfterProcesses.{after_components, after_component, chosen}
-use Rattle.usage_checks.specs.Following.{after_action}
 use Rattle.usage_checks.specs.NameRules.{with_entries}
-use Rattle.code_pieces.specs.Pieces.{Piece, Jump, Code, no_code, then_code, closed_by}
+use Rattle.code_pieces.specs.Pieces.{Piece, Jump, Code, then_code, closed_by}
 use Rattle.line_pieces.specs.Actions.{test_code}
 use Rattle.line_pieces.specs.Declarations.{Frame}
 use Rattle.line_pieces.specs.FrameViews.{frame_seen}
@@ -32,16 +31,14 @@ use Rattle.code_generator.specs.declared.choices.IfEnding.TheVariants as if_endi
 use Rattle.code_generator.specs.declared.limits.Limits.{Limits}
 use Rattle.code_generator.specs.declared.processes.ProcessWriter.{ProcessWriter}
 use Rattle.code_generator.specs.CallViews.{surroundings_of}
-use Rattle.code_generator.specs.Instances.{is_finer}
 use Rattle.code_generator.specs.Processes.{Site, Surroundings, with_declaration, at_place, row_of, is_true}
 use Rattle.code_generator.specs.Processes.{taken_code, tested_code, open_code, all_tested, ending_code, choices_code}
 use Rattle.code_generator.specs.Processes.{turn_begun, process_code, construct_code, components_code, component_code}
-use Rattle.code_generator.specs.Processes.{placed, line_code, act_code, with_row}
-use Rattle.code_generator.specs.Written.{site_of, DeclaresAll, declarations_code, IsTooMuch, Exceeds, row_code, Writes}
-use Rattle.code_generator.specs.Written.{WritesLine, WritesSeq, choice_as, WritesAs, tested_at, WritesTested, ending_at}
+use Rattle.code_generator.specs.Processes.{placed}
+use Rattle.code_generator.specs.Written.{site_of, DeclaresAll, declarations_code, IsTooMuch, Exceeds, Writes}
+use Rattle.code_generator.specs.Written.{WritesSeq, choice_as, WritesAs, tested_at, WritesTested, ending_at}
 use Rattle.code_generator.specs.Written.{placed_ending, AreEnded, choices_at, after_if, if_at, placed_turns}
 use Rattle.code_generator.specs.Written.{turns_tested, WritesSomeTurns, turns_at}
-use Rattle.code_generator.proofs.ActsWritten.{with_row_is}
 use Rattle.code_generator.proofs.ChoicesWritten.{ending_is, TakenLeft, ChoicesLeft}
 use Rattle.code_generator.proofs.Exceeding.{OneMore, exceeds_more, exceeds_before, exceeds_closed, exceeds_behind}
 use Rattle.code_generator.proofs.Exceeding.{exceeds_first, exceeds_second, exceeds_all, much_behind}
@@ -71,41 +68,6 @@ exceeds_declaring l s here ds line c p is h =
     (subst (λ o. Exceeds l s.listing o) (sym (code_behind here ds line c (site_of s)))
     (exceeds_more l (construct_code here line c (in_turn with_declaration ds (site_of s))) s.listing
     (declarations_code ds (site_of s)) h))
-
--- ---- an action
-
-pub exceeds_line : (l : Limits) (s : ProcessWriter) (around : calling.Surroundings) (action : Action)
-    → Exceeds l s.listing (line_code (surroundings_of around) action (site_of s))
-    → Exceeds l s.listing (act_code (surroundings_of around) action (site_of s))
-exceeds_line l s around action h =
-    let here = surroundings_of around in
-    let z = site_of s in
-    let finer = is_finer z.frame.homes z.known.entries z.frame.top action in
-    let after = with_entries (after_action here.around.signatures action) z.known in
-    subst (λ o. Exceeds l s.listing o) (sym (with_row_is finer z after (line_code here action z)))
-    (exceeds_first l (line_code here action z) (λ label. with_row finer z.frame after (no_code label)) s.listing h)
-
--- the row after it
-pub exceeds_row : (l : Limits) (around : calling.Surroundings) (action : Action) (finer : Bool) {s t : ProcessWriter}
-    (scope : code_scope.Scope)
-    → finer ≡ is_finer (site_of s).frame.homes (site_of s).known.entries (site_of s).frame.top action
-    → WritesLine s t around action
-    → known_of scope ≡ with_entries (after_action (surroundings_of around).around.signatures action) (known_of t.scope)
-    → Exceeds l t.listing (row_code finer (site_of (record t { scope = scope })))
-    → Exceeds l s.listing (act_code (surroundings_of around) action (site_of s))
-exceeds_row l around action finer {s} {t} scope finer_is one moved h =
-    let here = surroundings_of around in
-    let z = site_of s in
-    let after = with_entries (after_action here.around.signatures action) z.known in
-    let known : known_of scope ≡ after =
-    moved ∙ ap (with_entries (after_action here.around.signatures action)) one.known in
-    let behind : Exceeds l t.listing (with_row finer z.frame after (no_code t.label)) =
-    subst (λ (x : Frame × Known). Exceeds l t.listing (with_row finer x.0 x.1 (no_code t.label)))
-    (λ i. (one.frame i, known i)) h in
-    subst (λ b. Exceeds l s.listing (with_row b z.frame after (line_code here action z))) finer_is
-    (subst (λ o. Exceeds l s.listing o) (sym (with_row_is finer z after (line_code here action z)))
-    (exceeds_second l (line_code here action z) (λ label. with_row finer z.frame after (no_code label)) s.listing
-    t.listing t.label one.code behind))
 
 -- ---- components of a SEQ
 

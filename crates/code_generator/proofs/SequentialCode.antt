@@ -15,18 +15,15 @@ use Rattle.program_meaning.specs.Sequential.{IsSequential, IsSequentialAction, I
 use Rattle.program_meaning.specs.Sequential.{IsSequentialBody, AreSequential, IsSequentialComponent}
 use Rattle.program_meaning.specs.Sequential.{IsSequentialWord, IsSequentialProgram}
 use Rattle.usage_checks.specs.AfterProcesses.{begun, ended, begun_body, after_components, after_body}
-use Rattle.usage_checks.specs.Following.{after_action}
 use Rattle.usage_checks.specs.ItemRules.{Outside, outermost, around_in, weighed, after_item}
-use Rattle.usage_checks.specs.NameRules.{with_entries}
 use Rattle.code_pieces.specs.declared.operations.TheConstants.{STOP_PROCESS}
-use Rattle.code_pieces.specs.Pieces.{Piece, Jump, operates, Code, written, before, then_code, closed_by}
+use Rattle.code_pieces.specs.Pieces.{Piece, Jump, operates, Code, before, then_code, closed_by}
 use Rattle.line_pieces.specs.Actions.{test_code}
 use Rattle.line_pieces.specs.Homes.{Nowhere}
 use Rattle.line_pieces.specs.Declarations.{Frame, with_home, declaration_code}
 use Rattle.code_generator.specs.Calls.{Callee, where_called}
-use Rattle.code_generator.specs.Instances.{is_finer}
-use Rattle.code_generator.specs.Processes.{Site, Surroundings, row_of, with_declaration, at_place, line_code, with_row}
-use Rattle.code_generator.specs.Processes.{act_code, is_true, PlacedChoice, PlacedChoices, NoChoice, ThenChoice}
+use Rattle.code_generator.specs.Processes.{Site, Surroundings, row_of, with_declaration, at_place, line_code}
+use Rattle.code_generator.specs.Processes.{is_true, PlacedChoice, PlacedChoices, NoChoice, ThenChoice}
 use Rattle.code_generator.specs.Processes.{IfEnding, Stops, Always, Opens, EndedChoices, taken_code, tested_code}
 use Rattle.code_generator.specs.Processes.{all_tested, ending_code, choices_code, with_ending, opening, with_opening}
 use Rattle.code_generator.specs.Processes.{if_code, in_loop, value_or_zero, loop_start, loop_end, loop_code}
@@ -61,12 +58,6 @@ then_has (Some c) next h all = before_has c.pieces (next c.labels) (all c.labels
 
 -- ---- actions
 
-row_has : (finer : Bool) (f : Frame) (k : Known) (code : Option Code) → HasCode code
-    → HasCode (with_row finer f k code)
-row_has false f k code h = h
-row_has true f k code h =
-    then_has code (λ label. written (row_of label f k ∷ []) (label + 1)) h (λ label. tt)
-
 line_has : (w : Surroundings) (action : Action) (s : Site) → IsSequentialAction action
     → HasCode (line_code w action s)
 line_has w (Instance name actuals) s h = absurd h
@@ -75,11 +66,6 @@ line_has w Stop s h = tt
 line_has w (Assign target value) s h = tt
 line_has w (Input channel target) s h = tt
 line_has w (Output channel value) s h = tt
-
-act_has : (w : Surroundings) (action : Action) (s : Site) → IsSequentialAction action → HasCode (act_code w action s)
-act_has w action s h =
-    row_has (is_finer s.frame.homes s.known.entries s.frame.top action) s.frame
-    (with_entries (after_action w.around.signatures action) s.known) (line_code w action s) (line_has w action s h)
 
 -- ---- components, whose processes have code at all sites
 
@@ -268,7 +254,7 @@ mutual
 
   construct_has : (w : Surroundings) (line : ℕ) (c : Construct) → IsSequentialConstruct c → (s : Site)
       → HasCode (construct_code w line c s)
-  construct_has w line (Act action) h s = act_has w action s h
+  construct_has w line (Act action) h s = line_has w action s h
   construct_has w line (Block kind cs) h s =
       let word = block_word kind in
       let start = begun word s.known in

@@ -19,7 +19,6 @@ use Rattle.program_uses.specs.Constants.{value_as}
 use Rattle.program_uses.specs.Signatures.{Parameter, parameters_in}
 use Rattle.program_uses.specs.Declaring.{add, add_declaration}
 use Rattle.program_uses.specs.Indices.{Repeats, repeats_of, index_in, is_seq, turn_by_turn}
-use Rattle.usage_checks.specs.Following.{after_action}
 use Rattle.usage_checks.specs.NameRules.{with_entries}
 use Rattle.usage_checks.specs.AfterProcesses.{begun, ended, begun_body, chosen, after_components}
 use Rattle.usage_checks.specs.AfterProcesses.{after_component, after_body}
@@ -29,7 +28,6 @@ use Rattle.code_pieces.specs.Pieces.{written, before, then_code, closed_by, word
 use Rattle.line_pieces.specs.Homes.{Nowhere}
 use Rattle.line_pieces.specs.Declarations.{Frame, facts_in, with_home, with_block, declared, declaration_code}
 use Rattle.line_pieces.specs.Actions.{action_code, test_code}
-use Rattle.code_generator.specs.Instances.{is_finer}
 
 -- ---- places
 
@@ -76,16 +74,6 @@ called w m actuals s = None
 abbrev pub line_code : Surroundings → Action → Site → Option Code
 line_code w (Instance name actuals) s = called w (meaning_in name s.known.entries) actuals s
 line_code w action s = action_code s.frame s.known.entries s.label action
-
--- A row says that less is known than the machine knows.
-abbrev pub with_row : Bool → Frame → Known → Option Code → Option Code
-with_row false f k code = code
-with_row true f k code = then_code code (λ label. written (row_of label f k ∷ []) (label + 1))
-
-abbrev pub act_code : Surroundings → Action → Site → Option Code
-act_code w action s =
-    with_row (is_finer s.frame.homes s.known.entries s.frame.top action) s.frame
-    (with_entries (after_action w.around.signatures action) s.known) (line_code w action s)
 
 -- ---- choices
 
@@ -286,7 +274,7 @@ abbrev mutual
   process_code w (Does line c) s = construct_code w line c s
 
   pub construct_code : Surroundings → ℕ → Construct → Site → Option Code
-  construct_code w line (Act action) s = act_code w action s
+  construct_code w line (Act action) s = line_code w action s
   construct_code w line (Block kind cs) s =
       let word = block_word kind in
       let start = begun word s.known in

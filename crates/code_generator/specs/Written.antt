@@ -22,7 +22,7 @@ use Rattle.code_generator.specs.declared.choices.IfEnding as code_ending
 use Rattle.code_generator.specs.declared.choices.IfEnding.TheVariants as if_ending
 use Rattle.code_generator.specs.declared.loops.Turning.{Turning}
 use Rattle.code_generator.specs.declared.processes.ProcessWriter.{ProcessWriter}
-use Rattle.code_pieces.specs.Pieces.{Piece, Code, no_code, then_code}
+use Rattle.code_pieces.specs.Pieces.{Piece, Code, then_code}
 use Rattle.line_pieces.specs.Limits.{is_too_much}
 use Rattle.line_pieces.specs.Homes.{Nowhere}
 use Rattle.line_pieces.specs.Declarations.{Frame, with_home, declaration_code}
@@ -31,7 +31,7 @@ use Rattle.code_generator.specs.Calls.{Callee, callee_start, in_callee, callee_c
 use Rattle.code_generator.specs.declared.calling.Call.{Call}
 use Rattle.line_pieces.specs.FrameViews.{frame_seen}
 use Rattle.code_generator.specs.Processes.{Site, Surroundings, with_declaration, at_place, row_of, process_code}
-use Rattle.code_generator.specs.Processes.{construct_code, called, line_code, with_row}
+use Rattle.code_generator.specs.Processes.{construct_code, called, line_code}
 use Rattle.code_generator.specs.Processes.{components_code, component_code, is_skip, PlacedChoice, PlacedChoices}
 use Rattle.code_generator.specs.Processes.{IfEnding, Stops, Always, Opens, EndedChoices, taken_code, open_code}
 use Rattle.code_generator.specs.Processes.{all_tested, ending_code, choices_code, with_ending, with_opening, if_code}
@@ -120,13 +120,6 @@ WritesOne s t a c =
 -- The code of an action was appended, and what is known is as before.
 abbrev pub WritesLine : (s t : ProcessWriter) → calling.Surroundings → Action → Type 0
 WritesLine s t a action = Writes s t (line_code (surroundings_of a) action (site_of s)) (known_of s.scope)
-
--- a row that says what is known here, if the machine knows more
-abbrev pub row_code : Bool → Site → Option Code
-row_code is_finer s = with_row is_finer s.frame s.known (no_code s.label)
-
-abbrev pub WritesRow : (s t : ProcessWriter) → Bool → Type 0
-WritesRow s t is_finer = Writes s t (row_code is_finer (site_of s)) (known_of s.scope)
 
 -- A procedure with this meaning is called: its instances have code as those of this one.
 abbrev pub IsCall : Surroundings → Option Meaning → Call → Type 0

@@ -117,10 +117,8 @@ fn does_nothing(construct: &Construct) -> bool
     match construct {
         Construct::Action(action) => is_skip_action(action),
         Construct::Seq(processes) => all_do_nothing(processes),
-        Construct::If(_)
-        | Construct::Replicated { .. }
-        | Construct::Par(_)
-        | Construct::Alt(_) => false,
+        Construct::If(_) | Construct::Replicated { .. } | Construct::Par(_) | Construct::Alt(_) =>
+            false,
     }
 }
 

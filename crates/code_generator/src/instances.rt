@@ -10,7 +10,7 @@ ghost use Rattle.code_generator.specs.Written.{BeginsInstance, EndsInstance};
 
 use crate::calling::Callee;
 use crate::limits::Limits;
-use crate::passing::{Passed, all_forgotten, write_bindings, write_cleaning};
+use crate::passing::{Passed, all_forgotten, values_passed, write_bindings, write_cleaning};
 use crate::processes::ProcessWriter;
 use line_pieces::{Frame, Listing, Setting, facts_in, label_after, outermost_homes};
 use module_builder::GenFault;
@@ -66,9 +66,10 @@ impl<'a> ProcessWriter<'a> {
             homes: &self.frame.homes,
             top,
         };
+        self.listing.pass_values(values_passed(setting, passed))?;
         let outer = all_forgotten(self.alloc, setting, passed, known)?;
         let mut frame = Frame { homes, top, outer };
-        write_bindings(&mut self.listing, setting, passed, &mut frame)?;
+        write_bindings(self.alloc, &mut self.listing, setting, passed, &mut frame)?;
         add_formals(self.alloc, &mut scope, &callee.proc.formals)?;
         let mut body = ProcessWriter {
             alloc: self.alloc,

@@ -6,7 +6,6 @@ mod calling;
 mod choices;
 mod clearing;
 mod context;
-mod finer;
 mod guards;
 mod instances;
 mod laws;

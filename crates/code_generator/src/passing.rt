@@ -2,13 +2,15 @@
 
 ghost use Rattle.std.specs.Prelude.{◌≡◌, ◌++◌, ℕ, IfOk, Some, map, option_map};
 ghost use Rattle.occam_parser.specs.Views.{expression_of};
+ghost use Rattle.scalar_ranges.specs.Entries.{type_range};
 ghost use Rattle.scalar_ranges.specs.Scopes.{entries_of, meaning_of};
-ghost use Rattle.program_uses.specs.Instances.{place_in};
 ghost use Rattle.program_uses.specs.PlaceViews.{place_at};
-ghost use Rattle.line_pieces.specs.Actions.{channel_home, element_home};
+ghost use Rattle.line_pieces.specs.Actions.{element_home};
+ghost use Rattle.line_pieces.specs.Homes.{Table};
 ghost use Rattle.line_pieces.specs.FrameViews.{frame_seen};
 ghost use Rattle.line_pieces.specs.HomeViews.{home_seen};
-ghost use Rattle.code_generator.specs.Instances.{meaning_at, as_passed, passed_home, binding_code, bound};
+ghost use Rattle.code_generator.specs.Instances.{meaning_at, with_ends, as_passed, passed_place, passed_home};
+ghost use Rattle.code_generator.specs.Instances.{binding_code, bound};
 ghost use Rattle.code_generator.specs.Instances.{bindings_code, all_bound, passed_target, unknown_in, with_target};
 ghost use Rattle.code_generator.specs.Instances.{all_forgotten, cleaning_code};
 ghost use Rattle.code_generator.specs.PassedViews.{parameters_of, actuals_of, is_found};
@@ -17,11 +19,12 @@ ghost use Rattle.line_pieces.specs.TargetViews.{target_seen};
 
 use code_pieces::RowEntry;
 use line_pieces::{Frame, Home, Listing, Setting, Target, is_in, single, target_of, word_after};
-use occam_parser::Expr;
+use occam_parser::{Expr, ValueType};
 use program_uses::{PlaceRef, Signature, parameter_at, place_in};
-use scalar_ranges::{Meaning, ScalarKind, range_of};
+use scalar_ranges::{ArrayKind, Meaning, ScalarKind, range_of, type_range};
 use std::alloc::{AllocError, Global};
 use std::collections::BTreeSet;
+use std::rc::Rc;
 use word_arithmetic::Range;
 
 /// What an instance passes to the parameters of a procedure.
@@ -46,60 +49,98 @@ impl Passed<'_, '_> {
 
 // ---- formals
 
-/// A place as a procedure has it that it is passed to.
-fn as_passed(home: &Home) -> Result<Home, AllocError>
-    ensures { IfOk result (λ h. home_seen h ≡ as_passed (Some (home_seen home.now))) }
+/// A table as a procedure has it that it is passed to: the ends of its type's range are behind its values.
+fn passed_table(alloc: Global, values: &[i32], value_type: ValueType) -> Result<Home, AllocError>
+    ensures { IfOk result (λ h. home_seen h ≡ Table (with_ends (type_range value_type) values.now)) }
 {
-    match home {
-        Home::Word(word) => Ok(Home::Passed(*word)),
-        Home::Nowhere | Home::Block { .. } | Home::Link(_) | Home::Table(_) | Home::Passed(_) =>
-            home.copy(),
+    let range = type_range(value_type);
+    let mut passed = Vec::with_capacity(alloc, values.len() + 2)?;
+    passed.extend_from_slice(values)?;
+    passed.push(range.lo)?;
+    passed.push(range.hi)?;
+    Ok(Home::Table(Rc::new(alloc, passed)?))
+}
+
+/// A place as a procedure has it that it is passed to, by what it is.
+fn as_passed(alloc: Global, meaning: Option<Meaning>, home: &Home) -> Result<Home, AllocError>
+    ensures { IfOk result (λ h. home_seen h
+        ≡ as_passed (option_map meaning_of meaning) (Some (home_seen home.now))) }
+{
+    match (home, meaning) {
+        (Home::Word(word), _) => Ok(Home::Passed(*word)),
+        (
+            Home::Table(values),
+            Some(
+                Meaning::Array {
+                    kind: ArrayKind::Table,
+                    value_type,
+                    ..
+                },
+            ),
+        ) => passed_table(alloc, values, value_type),
+        _ => home.copy(),
     }
 }
 
-/// Where an element of an array of channels is, as a procedure has it that it is passed to.
-fn passed_element(home: &Home, number: Option<i32>) -> Result<Home, AllocError>
-    ensures { IfOk result (λ h. home_seen h
-        ≡ as_passed (element_home number (Some (home_seen home.now)))) }
+/// Where an element of an array of channels is.
+fn element_home(home: &Home, number: Option<i32>) -> Result<Home, AllocError>
+    ensures { IfOk result (λ h. Some (home_seen h) ≡ element_home number (Some (home_seen home.now))) }
 {
-    let Some(number) = number else {
-        return as_passed(home);
-    };
-    match home {
-        Home::Word(word) | Home::Passed(word) => {
+    match (home, number) {
+        (Home::Word(word), Some(number)) => Ok(Home::Word(word_after(
+            *word,
+            number.unsigned_abs(),
+        ))),
+        (Home::Passed(word), Some(number)) => {
             Ok(Home::Passed(word_after(*word, number.unsigned_abs())))
         }
-        Home::Nowhere | Home::Block { .. } | Home::Link(_) | Home::Table(_) => home.copy(),
+        _ => home.copy(),
     }
 }
 
 /// Where a place is, as a procedure has it that it is passed to.
-fn passed_place(setting: Setting, place: PlaceRef) -> Result<Home, AllocError>
+fn passed_place(alloc: Global, setting: Setting, place: PlaceRef) -> Result<Home, AllocError>
     ensures { IfOk result (λ h. home_seen h
-        ≡ as_passed (channel_home (homes_in setting.entry) (entries_in setting.entry) (place_at place.entry))) }
+        ≡ passed_place (homes_in setting.entry) (entries_in setting.entry) (Some (place_at place.entry))) }
 {
+    let meaning = setting.scope.meaning(place.name);
     match (setting.home(place.name), place.subscript) {
         (None, _) => Ok(Home::Nowhere),
-        (Some(home), None) => as_passed(home),
+        (Some(home), None) => as_passed(alloc, meaning, home),
         (Some(home), Some(subscript)) => {
-            passed_element(home, single(range_of(setting.scope, subscript)))
+            let element = element_home(home, single(range_of(setting.scope, subscript)))?;
+            as_passed(alloc, meaning, &element)
         }
     }
 }
 
 /// Where an actual is, as a procedure has it that it is passed to.
-fn passed_home(setting: Setting, actual: &Expr) -> Result<Home, AllocError>
+fn passed_home(alloc: Global, setting: Setting, actual: &Expr) -> Result<Home, AllocError>
     ensures { IfOk result (λ h. home_seen h
         ≡ passed_home (homes_in setting.entry) (entries_in setting.entry) (expression_of actual.now)) }
 {
     match place_in(actual) {
-        Some(place) => passed_place(setting, place),
+        Some(place) => passed_place(alloc, setting, place),
         None => Ok(Home::Nowhere),
     }
 }
 
+/// How many values the tables have that are passed. No clause says it: it bounds the memory that these take.
+pub(crate) fn values_passed(setting: Setting, passed: Passed) -> usize {
+    let mut count: usize = 0;
+    for actual in passed.actuals {
+        if let Some(place) = place_in(actual) {
+            if let Some(Home::Table(values)) = setting.home(place.name) {
+                count = count.saturating_add(values.len());
+            }
+        }
+    }
+    count
+}
+
 /// An actual, for a parameter with this meaning: the value of a `VAL` scalar is stored in a word of its own.
 fn write_binding(
+    alloc: Global,
     listing: &mut Listing,
     setting: Setting,
     parameter: Option<Meaning>,
@@ -124,12 +165,13 @@ fn write_binding(
             listing.store(top)?;
             frame.add_words(1)
         }
-        _ => frame.add_home(passed_home(setting, actual)?),
+        _ => frame.add_home(passed_home(alloc, setting, actual)?),
     }
 }
 
 /// All actuals. The frame is that of the procedure, which has a place for each parameter then.
 pub(crate) fn write_bindings(
+    alloc: Global,
     listing: &mut Listing,
     setting: Setting,
     passed: Passed,
@@ -143,7 +185,14 @@ pub(crate) fn write_bindings(
         (frame_seen frame.old)) }
 {
     for (place, actual) in passed.actuals.iter().enumerate() {
-        write_binding(listing, setting, passed.meaning(place), actual, frame)?;
+        write_binding(
+            alloc,
+            listing,
+            setting,
+            passed.meaning(place),
+            actual,
+            frame,
+        )?;
     }
     Ok(())
 }

@@ -11,17 +11,15 @@ ghost use Rattle.line_pieces.specs.Actions.{action_code, test_code};
 ghost use Rattle.line_pieces.specs.Declarations.{declaration_code};
 ghost use Rattle.code_generator.specs.CallViews.{surroundings_of};
 ghost use Rattle.line_pieces.specs.FrameViews.{frame_seen};
-ghost use Rattle.code_generator.specs.Processes.{row_of, act_code, line_code, process_code};
+ghost use Rattle.code_generator.specs.Processes.{row_of, line_code, process_code};
 ghost use Rattle.code_generator.specs.Processes.{construct_code, body_code, components_code, component_code};
 ghost use Rattle.code_generator.specs.Written.{site_of, Appends, Declares, DeclaresAll, WritesConstruct, WritesProcess};
-ghost use Rattle.code_generator.specs.Written.{WritesSeq, WritesOne, WritesLoop, first_site, WritesLine, WritesRow};
-ghost use Rattle.code_generator.specs.Written.{IsTooMuch, Exceeds, declarations_code, row_code, looped_code};
-ghost use Rattle.code_generator.specs.Instances.{is_finer};
+ghost use Rattle.code_generator.specs.Written.{WritesSeq, WritesOne, WritesLoop, first_site, WritesLine};
+ghost use Rattle.code_generator.specs.Written.{IsTooMuch, Exceeds, declarations_code, looped_code};
 
 use crate::calling::Surroundings;
 use crate::clearing::clear_names;
 use crate::context::Context;
-use crate::finer::is_finer;
 use crate::limits::{Limits, Spent};
 use crate::loops::{Turning, value_or_zero};
 use crate::passing::Passed;
@@ -106,7 +104,14 @@ impl<'a> ProcessWriter<'a> {
         let count = words_in(&self.scope, names.value_type, &names.size);
         let meaning = variable_meaning(&self.scope, names.value_type, &names.size);
         let listing = &mut self.listing;
-        clear_names(listing, limits, &names.size, &names.names, self.frame.top, count)?;
+        clear_names(
+            listing,
+            limits,
+            &names.size,
+            &names.names,
+            self.frame.top,
+            count,
+        )?;
         self.frame.add_names(count, &names.names)?;
         declare_names(&mut self.scope, &names.names, meaning)?;
         Ok(())
@@ -240,34 +245,6 @@ impl<'a> ProcessWriter<'a> {
         Ok(())
     }
 
-    /// Whether the machine knows more of a scalar after an action than its range.
-    fn is_finer(&self, action: &Action) -> bool
-        ensures { result ≡ is_finer (frame_seen self.now.frame).homes (entries_of self.now.scope) self.now.frame.top
-            (action_of action.now) }
-    {
-        let setting = Setting {
-            scope: &self.scope,
-            homes: &self.frame.homes,
-            top: self.frame.top,
-        };
-        is_finer(setting, action)
-    }
-
-    /// A row, if the machine knows more than is known here.
-    fn write_finer(&mut self, limits: Limits, is_finer: bool) -> Result<(), GenFault>
-        ensures ok { IfOk result (λ _. WritesRow self.old self.new is_finer) }
-        ensures limit { result ≡ Err GenFault.Limit
-            → Exceeds limits self.old.listing (row_code is_finer (site_of self.old)) }
-    {
-        if !is_finer {
-            return Ok(());
-        }
-        let label = self.label;
-        self.label = label_after(label)?;
-        self.write_row(limits, label)?;
-        Ok(())
-    }
-
     /// A process, with what it declares.
     #[cycle(processes)]
     pub fn write(
@@ -324,14 +301,12 @@ impl<'a> ProcessWriter<'a> {
         ensures ok { IfOk result (λ _. WritesConstruct self.old self.new around.entry line
             (Act (action_of action.now))) }
         ensures limit { result ≡ Err GenFault.Limit → Exceeds around.entry.limits self.old.listing
-            (act_code (surroundings_of around.entry) (action_of action.now) (site_of self.old)) }
+            (line_code (surroundings_of around.entry) (action_of action.now) (site_of self.old)) }
     {
         let reading = reading_of_action(action);
         self.walk_over(around.limits, size_of_action(action), reading)?;
-        let is_finer = self.is_finer(action);
         self.write_line(around, action)?;
         after_action(&mut self.scope, around.around.signatures, action);
-        self.write_finer(around.limits, is_finer)?;
         Ok(())
     }
 

@@ -23,7 +23,6 @@ use Rattle.occam_parser.specs.declared.tree.Logic.TheVariants as logic
 use Rattle.occam_parser.specs.Expressions.{Expression, Alone, Prefixed, Paired, Chained, Terms, Two, Then, Term}
 use Rattle.occam_parser.specs.Expressions.{Number, Byte, Truth, MostPos, MostNeg, Named, Element, Bracketed, Converted}
 use Rattle.scalar_ranges.specs.declared.scope.ScalarKind.TheVariants as kinds
-use Rattle.scalar_ranges.specs.declared.scope.ArrayKind.TheVariants as arrays
 use Rattle.scalar_ranges.specs.Entries.{Meaning, Scalar, Array, Entry, meaning_in}
 use Rattle.scalar_ranges.specs.Bounds.{bound_of, bound_of_term, exact_value, range_found}
 use Rattle.scalar_ranges.specs.Fronts.{Front, count_of, front_in}
@@ -239,26 +238,10 @@ element_of_table values (Some c) s = TableAddress values ∷ loads_at c ∷ []
 element_of_table values None s =
     before_offset s ++ TableAddress values ∷ operates WORD_SUBSCRIPT ∷ loads_at (or_zero s.offset) ∷ []
 
--- the lowest byte of an element
-abbrev pub byte_of_table : List ℤ → Option ℤ → List Piece → List Piece
-byte_of_table values (Some c) subscript =
-    TableAddress values ∷ Direct fun.LoadNonLocalPointer c ∷ operates LOAD_BYTE ∷ []
-byte_of_table values None subscript =
-    subscript ++ TableAddress values ∷ operates WORD_SUBSCRIPT ∷ operates LOAD_BYTE ∷ []
-
--- Of the elements of a table that is passed no more is known than their type. So of a BYTE the byte alone is read.
-abbrev pub are_passed_bytes : Option Meaning → Bool
-are_passed_bytes (Some (Array arrays.Value value_type.Byte size range)) = true
-are_passed_bytes m = false
-
-abbrev pub table_element : (bytes : Bool) → List ℤ → Option ℤ → Subscript → List Piece
-table_element true values c s = byte_of_table values c s.whole
-table_element false values c s = element_of_table values c s
-
 abbrev pub element_code : Option Home → Option Meaning → Option ℤ → Subscript → List Piece
 element_code (Some (Word w)) (Some (Array kind type size range)) c s = element_of_words type w c s
 element_code (Some (Passed w)) (Some (Array kind type size range)) c s = element_of_words type w c s
-element_code (Some (Table values)) m c s = table_element (are_passed_bytes m) values c s
+element_code (Some (Table values)) m c s = element_of_table values c s
 element_code h m c s = []
 
 -- ---- two operands

@@ -17,7 +17,7 @@ ghost use Rattle.line_pieces.specs.Expressions.{are_leaves, is_left_first, is_sm
 ghost use Rattle.line_pieces.specs.Expressions.{byte_address, address_code, element_of_words, element_of_table};
 ghost use Rattle.line_pieces.specs.Expressions.{element_code, expression_code, term_code, truth, known_address};
 ghost use Rattle.line_pieces.specs.Expressions.{subscript_code, pushes_of, pair_code, equality_code};
-ghost use Rattle.line_pieces.specs.Expressions.{are_passed_bytes, added_for, added_by, next_above, next_below};
+ghost use Rattle.line_pieces.specs.Expressions.{added_for, added_by, next_above, next_below};
 ghost use Rattle.line_pieces.specs.Expressions.{comparison_pushes, comparison_code, negated_unless, comes_last};
 
 use crate::home::Home;
@@ -29,7 +29,7 @@ use occam_parser::{
     PairOperator, PrefixOperator, ValueType,
 };
 use prefix_decoder::Fun;
-use scalar_ranges::{ArrayKind, Front, Meaning, ScalarKind, Scope, read_operand, value_of};
+use scalar_ranges::{Front, Meaning, ScalarKind, Scope, read_operand, value_of};
 use std::alloc::AllocError;
 use word_arithmetic::{Range, checked_add, checked_sub};
 
@@ -241,22 +241,6 @@ pub(crate) fn is_byte_reference(meaning: Option<Meaning>) -> bool
         Some(
             Meaning::Scalar {
                 kind: ScalarKind::Reference,
-                value_type: ValueType::Byte,
-                ..
-            },
-        ) => true,
-        _ => false,
-    }
-}
-
-/// Whether the elements of what has this meaning are BYTEs, of which no more is known than their type.
-pub(crate) fn are_passed_bytes(meaning: Option<Meaning>) -> bool
-    ensures { result ≡ are_passed_bytes (option_map meaning_of meaning) }
-{
-    match meaning {
-        Some(
-            Meaning::Array {
-                kind: ArrayKind::Value,
                 value_type: ValueType::Byte,
                 ..
             },

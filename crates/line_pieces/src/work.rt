@@ -27,6 +27,9 @@ const LETTER_STEPS: u32 = 4;
 /// For what is passed to a parameter.
 const PASSING_STEPS: u32 = 400;
 
+/// For a value of a table that is passed. So all of these take 200 MB at most.
+const VALUE_STEPS: u32 = 8;
+
 /// For an entry that is looked up among what a branch of a `PAR` uses.
 const CUTTING_STEPS: u32 = 12;
 
@@ -175,6 +178,13 @@ impl Listing {
         ensures { IfOk result (λ _. self.new ≡ self.old) }
     {
         self.work.count(size_of_count(actuals)?, PASSING_STEPS)
+    }
+
+    /// Tables with `values` values are passed.
+    pub fn pass_values(&mut self, values: usize) -> Result<(), GenFault>
+        ensures { IfOk result (λ _. self.new ≡ self.old) }
+    {
+        self.work.count(size_of_count(values)?, VALUE_STEPS)
     }
 
     /// `names` names are looked at for a row.

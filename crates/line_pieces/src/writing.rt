@@ -11,12 +11,12 @@ ghost use Rattle.line_pieces.specs.SettingViews.{entries_in, homes_in, expressio
 ghost use Rattle.line_pieces.specs.SettingViews.{on_constant_in, subscript_in, first_in};
 ghost use Rattle.line_pieces.specs.SettingViews.{others_in, operands_in, value_in, front_at};
 ghost use Rattle.line_pieces.specs.SettingViews.{both_in, either_in, first_two_in};
-ghost use Rattle.line_pieces.specs.Expressions.{single, address_code, element_of_words, table_element};
+ghost use Rattle.line_pieces.specs.Expressions.{single, address_code, element_of_words, element_of_table};
 ghost use Rattle.line_pieces.specs.Expressions.{element_code, without};
 
 use crate::expressions::{
-    Pushes, added_by, are_passed_bytes, chain_operation, comes_last, covered, is_byte_reference,
-    is_small_term, offset_of, or_zero, pushes_of, single,
+    Pushes, added_by, chain_operation, comes_last, covered, is_byte_reference, is_small_term,
+    offset_of, or_zero, pushes_of, single,
 };
 use crate::home::Home;
 use crate::listing::Listing;
@@ -313,48 +313,36 @@ impl Listing {
                 Some(Home::Word(word) | Home::Passed(word)),
                 Some(Meaning::Array { value_type, .. }),
             ) => self.write_element_of_words(setting, value_type, *word, subscript),
-            (Some(Home::Table(values)), meaning) => {
-                self.write_table_element(setting, are_passed_bytes(meaning), values, subscript)
+            (Some(Home::Table(values)), _) => {
+                self.write_element_of_table(setting, values, subscript)
             }
             _ => Ok(()),
         }
     }
 
-    /// An element of a table, or the lowest byte of one.
+    /// An element of a table.
     #[cycle(write)]
-    fn write_table_element(
+    fn write_element_of_table(
         &mut self,
         setting: Setting,
-        is_byte: bool,
         values: &Rc<Vec<i32>>,
         subscript: &Expr,
     ) -> Result<(), AllocError>
-        ensures { IfOk result (λ _. self.new ≡ self.old ++ table_element is_byte values.now.value.items
+        ensures { IfOk result (λ _. self.new ≡ self.old ++ element_of_table values.now.value.items
             (single (range_found (bound_of (entries_in setting.entry) (expression_of subscript.now))))
             (subscript_in setting.entry (expression_of subscript.now))) }
     {
-        match (single(range_of(setting.scope, subscript)), is_byte) {
-            (Some(number), false) => {
+        match single(range_of(setting.scope, subscript)) {
+            Some(number) => {
                 self.table(values)?;
                 self.direct(Fun::LoadNonLocal, number)
             }
-            (Some(number), true) => {
-                self.table(values)?;
-                self.direct(Fun::LoadNonLocalPointer, number)?;
-                self.operate(operations::LOAD_BYTE)
-            }
-            (None, false) => {
+            None => {
                 let offset = offset_of(setting.scope, subscript);
                 self.write_without(setting, offset, subscript)?;
                 self.table(values)?;
                 self.operate(operations::WORD_SUBSCRIPT)?;
                 self.direct(Fun::LoadNonLocal, or_zero(offset))
-            }
-            (None, true) => {
-                self.write_expression(setting, subscript)?;
-                self.table(values)?;
-                self.operate(operations::WORD_SUBSCRIPT)?;
-                self.operate(operations::LOAD_BYTE)
             }
         }
     }

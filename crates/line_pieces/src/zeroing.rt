@@ -35,7 +35,12 @@ impl Listing {
     }
 
     /// What one name denotes, by its first word.
-    pub fn write_zero(&mut self, size: &Option<Expr>, word: u32, count: u32) -> Result<(), AllocError>
+    pub fn write_zero(
+        &mut self,
+        size: &Option<Expr>,
+        word: u32,
+        count: u32,
+    ) -> Result<(), AllocError>
         ensures { IfOk result (λ _. self.new ≡ self.old ++ zero_code (any_of size.now) word count) }
     {
         match size {

@@ -18,9 +18,7 @@ use Rattle.program_uses.specs.Changes.{changed_by_body}
 use Rattle.program_uses.specs.Indices.{index_in, is_seq, repeats_of}
 use Rattle.program_uses.specs.Signatures.{Parameter, parameters_in}
 use Rattle.usage_checks.specs.AfterProcesses.{after_body, after_components, begun, begun_body, ended}
-use Rattle.usage_checks.specs.Following.{after_action}
 use Rattle.usage_checks.specs.ItemRules.{Outside, after_item, around_in, weighed, outermost}
-use Rattle.usage_checks.specs.NameRules.{with_entries}
 use Rattle.code_pieces.specs.Pieces.{Code, Jump, JumpUnless, Piece, Row, before, closed_by, operates, then_code}
 use Rattle.code_pieces.specs.Pieces.{written}
 use Rattle.code_pieces.specs.declared.operations.TheConstants.{STOP_PROCESS}
@@ -31,15 +29,15 @@ use Rattle.line_pieces.specs.Expressions.{expression_code}
 use Rattle.line_pieces.specs.Homes.{Nowhere}
 use Rattle.code_generator.specs.Calls.{Callee, around_before, callee_code, callee_code_if, callee_start, calls_below}
 use Rattle.code_generator.specs.Calls.{in_callee, outside_frame, where_called}
-use Rattle.code_generator.specs.Instances.{bindings_code, cleaning_code, is_finer}
+use Rattle.code_generator.specs.Instances.{bindings_code, cleaning_code}
 use Rattle.code_generator.specs.Processes.{Always, EndedChoices, IfEnding, NoChoice, Opens, PlacedChoice}
-use Rattle.code_generator.specs.Processes.{PlacedChoices, Site, Stops, Surroundings, ThenChoice, act_code, all_tested}
+use Rattle.code_generator.specs.Processes.{PlacedChoices, Site, Stops, Surroundings, ThenChoice, all_tested}
 use Rattle.code_generator.specs.Processes.{at_place, body_code, by_block, called, choices_code, component_code}
 use Rattle.code_generator.specs.Processes.{components_code, construct_code, ending_code, has_scalar, if_code}
 use Rattle.code_generator.specs.Processes.{in_each_turn, in_loop, is_true, line_code, loop_code, loop_start, no_loop}
 use Rattle.code_generator.specs.Processes.{opening, placed, placed_choices, process_code, repeated_seq, row_of}
 use Rattle.code_generator.specs.Processes.{taken_code, tested_code, times, turn_begun, value_or_zero}
-use Rattle.code_generator.specs.Processes.{with_declaration, with_ending, with_opening, with_row}
+use Rattle.code_generator.specs.Processes.{with_declaration, with_ending, with_opening}
 use Rattle.code_generator.specs.Programs.{callable, code_of, framed, in_main, items_code, last_item_code, no_frame}
 use Rattle.meant_code.specs.Labels.{AreStraight, times_in}
 use Rattle.meant_code.specs.OwnCode.{AreOwn, ProcessesAreOwn}
@@ -86,13 +84,6 @@ anywhere n after (Some c) own = own_anywhere n c.labels after c.pieces own
 
 -- ---- actions
 
-row_own : (finer : Bool) (n : ℕ) (f : Frame) (k : Known) (code : Option Code) → IsOwn n [] code
-    → IsOwn n [] (with_row finer f k code)
-row_own false n f k code own = own
-row_own true n f k code own =
-    then_own n [] code (λ label. written (row_of label f k ∷ []) (label + 1)) own
-    (λ label. own_row label [] (facts_in f k.entries))
-
 stop_own : (f : Frame) (es : List Entry) (n : ℕ) → IsOwn n [] (stop_code f es n)
 stop_own f es n =
     own_both n n (n + 1) [] (operates STOP_PROCESS ∷ []) (Row n (facts_in f es) ∷ [])
@@ -122,12 +113,6 @@ line_own w (Input channel target) s calls =
 line_own w (Output channel value) s calls =
     own_straight s.label [] (output_code s.frame.homes s.known.entries s.frame.top channel value)
     (output_is s.frame.homes s.known.entries s.frame.top channel value)
-
-act_own : (w : Surroundings) (action : Action) (s : Site) → CallsAreOwn w → IsOwn s.label [] (act_code w action s)
-act_own w action s calls =
-    row_own (is_finer s.frame.homes s.known.entries s.frame.top action) s.label s.frame
-    (with_entries (after_action w.around.signatures action) s.known) (line_code w action s)
-    (line_own w action s calls)
 
 -- ---- components, whose processes have code of their own at all sites
 
@@ -324,7 +309,7 @@ module _ (w : Surroundings) (calls : CallsAreOwn w) where
     process_own (Does line c) s = construct_own line c s
 
     construct_own : (line : ℕ) (c : Construct) (s : Site) → IsOwn s.label [] (construct_code w line c s)
-    construct_own line (Act action) s = act_own w action s calls
+    construct_own line (Act action) s = line_own w action s calls
     construct_own line (Block kind cs) s =
         let word = block_word kind in
         let start = begun word s.known in

@@ -37,14 +37,14 @@ use Rattle.line_pieces.specs.Actions.{source_of_term, store_after, store_code, s
 use Rattle.line_pieces.specs.Actions.{stores_below, target_address, target_of, whole_target}
 use Rattle.line_pieces.specs.Declarations.{Frame, declaration_code, spread, words_in, zero_code, zero_names}
 use Rattle.line_pieces.specs.Expressions.{Operand, Subscript, added_by, added_for, address_code, adds_or}
-use Rattle.line_pieces.specs.Expressions.{after_constant, are_passed_bytes, back, before_offset, beside, both}
+use Rattle.line_pieces.specs.Expressions.{after_constant, back, before_offset, beside, both}
 use Rattle.line_pieces.specs.Expressions.{byte_address, chain_operation, comes_last, comparison_code, constant_or}
 use Rattle.line_pieces.specs.Expressions.{covered, element_code, element_of_words, equality_code, exchanged}
 use Rattle.line_pieces.specs.Expressions.{expression_code, first_code, first_of_terms, first_two, is_byte_reference}
 use Rattle.line_pieces.specs.Expressions.{is_known, is_small, is_small_term, known_address, loads_at, negated_unless}
 use Rattle.line_pieces.specs.Expressions.{negates, next_above, next_below, offset_of, onto, or_zero, pair_code}
 use Rattle.line_pieces.specs.Expressions.{pair_operation, prefix_code, pushed, pushes_of, scalar_code, single}
-use Rattle.line_pieces.specs.Expressions.{subscript_code, subscript_of, table_element, term_code, terms_code, truth}
+use Rattle.line_pieces.specs.Expressions.{subscript_code, subscript_of, term_code, terms_code, truth}
 use Rattle.line_pieces.specs.Expressions.{unless, unless_added, without, comparison_pushes, on_constant}
 use Rattle.line_pieces.specs.Expressions.{below_constant, equality_pushes}
 use Rattle.line_pieces.specs.Homes.{Block, Home, Link, Passed, Table, Word, home_of}
@@ -137,14 +137,10 @@ element_of_words_is value_type.Byte w c s are =
     straight_both (address_code value_type.Byte w c s.whole) (operates LOAD_BYTE ∷ [])
     (address_is value_type.Byte w c s.whole are.whole) (tt, tt)
 
-table_element_is : (bytes : Bool) (values : List ℤ) (c : Option ℤ) (s : Subscript) → StraightSubscript s
-    → AreStraight (table_element bytes values c s)
-table_element_is true values (Some c) s are = (tt, (tt, (tt, tt)))
-table_element_is true values None s are =
-    straight_both s.whole (TableAddress values ∷ operates WORD_SUBSCRIPT ∷ operates LOAD_BYTE ∷ []) are.whole
-    (tt, (tt, (tt, tt)))
-table_element_is false values (Some c) s are = (tt, (tt, tt))
-table_element_is false values None s are =
+element_of_table_is : (values : List ℤ) (c : Option ℤ) (s : Subscript) → StraightSubscript s
+    → AreStraight (element_of_table values c s)
+element_of_table_is values (Some c) s are = (tt, (tt, tt))
+element_of_table_is values None s are =
     straight_both (before_offset s)
     (TableAddress values ∷ operates WORD_SUBSCRIPT ∷ loads_at (or_zero s.offset) ∷ [])
     (without_is s.offset s.whole s.first are.whole are.first) (tt, (tt, (tt, tt)))
@@ -153,7 +149,7 @@ element_is : (h : Option Home) (m : Option Meaning) (c : Option ℤ) (s : Subscr
     → AreStraight (element_code h m c s)
 element_is (Some (Word w)) (Some (Array kind type size range)) c s are = element_of_words_is type w c s are
 element_is (Some (Passed w)) (Some (Array kind type size range)) c s are = element_of_words_is type w c s are
-element_is (Some (Table values)) m c s are = table_element_is (are_passed_bytes m) values c s are
+element_is (Some (Table values)) m c s are = element_of_table_is values c s are
 element_is h m c s are = tt
 
 -- an operand whose code is

@@ -30,13 +30,13 @@ use Rattle.line_pieces.specs.Homes.{Nowhere}
 use Rattle.line_pieces.specs.Declarations.{with_home}
 use Rattle.code_generator.specs.Branches.{WritesPar}
 use Rattle.code_generator.specs.Processes.{Site, Surroundings, at_place, taken_code, tested_code, open_code}
-use Rattle.code_generator.specs.Processes.{process_code, act_code, construct_code, components_code}
+use Rattle.code_generator.specs.Processes.{process_code, line_code, construct_code, components_code}
 use Rattle.code_generator.specs.Written.{site_of, Writes, WritesConstruct, WritesSeq, WritesLine, EntersLoop, IsTooMuch}
 use Rattle.code_generator.specs.Written.{Exceeds, entering_code, choice_as, WritesAs, if_at, WritesIf, before_turns}
 use Rattle.code_generator.specs.Written.{ending_at, WritesEnding, WritesSomeTurns, turns_at, WritesTurns}
 use Rattle.code_generator.proofs.ActsWritten.{writes_act, writes_from, writes_instance}
 use Rattle.code_generator.proofs.Exceeding.{exceeds_from, spent_place}
-use Rattle.code_generator.proofs.PartsExceed.{exceeds_declaring, exceeds_process, exceeds_line, exceeds_row, exceeds_seq}
+use Rattle.code_generator.proofs.PartsExceed.{exceeds_declaring, exceeds_process, exceeds_seq}
 use Rattle.code_generator.proofs.PartsExceed.{exceeds_taken, exceeds_tested, exceeds_other, exceeds_open}
 use Rattle.code_generator.proofs.PartsExceed.{exceeds_choices, exceeds_ending, exceeds_opens, exceeds_passing}
 use Rattle.code_generator.proofs.PartsExceed.{exceeds_if, exceeds_if_end, exceeds_turns, exceeds_last_turn}
@@ -101,9 +101,8 @@ act-returns-clause-ok t c =
     let followed : known_of c.after_action.new.scope
     ≡ with_entries (after_action here.around.signatures action) (known_of c.write_line.new.self.scope) =
     λ i. record { entries = c.after_action.ensures.entries i; blocks = c.after_action.ensures.blocks i } in
-    writes_from (act_code here action) (with_entries (after_action here.around.signatures action)) spent.listing place
-    (writes_act c.args.around c.args.line action c.is_finer-is_finer.result c.after_action.new.scope
-    c.is_finer-is_finer.ensures c.in_ok-write_line.ensures.ok followed c.in_ok-write_finer.ensures.ok)
+    writes_from (line_code here action) (with_entries (after_action here.around.signatures action)) spent.listing place
+    (writes_act c.args.around c.args.line action c.after_action.new.scope c.in_ok-write_line.ensures.ok followed)
 
 pub write_line-returns-in-Instance-clause-ok : goal.write_line-returns-in-Instance-clause-ok
 write_line-returns-in-Instance-clause-ok t c =
@@ -512,26 +511,8 @@ act-returns-in_err-write_line-clause-limit t c = λ e.
     let place = spent_place spent in
     let fault = handed_on c.from_residual-in_err-write_line.result c.in_err-write_line.field-0.0 Limit
     c.from_residual-in_err-write_line.ensures.1 e in
-    exceeds_from c.args.around.limits s walked (act_code (surroundings_of c.args.around) action) spent.listing place
-    (exceeds_line c.args.around.limits walked c.args.around action (c.in_err-write_line.ensures.limit (ap Err fault)))
-
-pub act-returns-in_err-write_finer-clause-limit : goal.act-returns-in_err-write_finer-clause-limit
-act-returns-in_err-write_finer-clause-limit t c = λ e.
-    let s = c.args.self.now in
-    let walked = c.walk_over.new.self in
-    let here = surroundings_of c.args.around in
-    let action = action_of c.args.action.now in
-    let spent = c.in_ok-walk_over.ensures.ok in
-    let place = spent_place spent in
-    let followed : known_of c.after_action.new.scope
-    ≡ with_entries (after_action here.around.signatures action) (known_of c.write_line.new.self.scope) =
-    λ i. record { entries = c.after_action.ensures.entries i; blocks = c.after_action.ensures.blocks i } in
-    let fault = handed_on c.from_residual-in_err-write_finer.result c.in_err-write_finer.field-0.0 Limit
-    c.from_residual-in_err-write_finer.ensures.1 e in
-    exceeds_from c.args.around.limits s walked (act_code here action) spent.listing place
-    (exceeds_row c.args.around.limits c.args.around action c.is_finer-is_finer.result c.after_action.new.scope
-    c.is_finer-is_finer.ensures c.in_ok-write_line.ensures.ok followed
-    (c.in_err-write_finer.ensures.limit (ap Err fault)))
+    exceeds_from c.args.around.limits s walked (line_code (surroundings_of c.args.around) action) spent.listing place
+    (c.in_err-write_line.ensures.limit (ap Err fault))
 
 pub write_seq-returns-in_err-write_one-clause-limit : goal.write_seq-returns-in_err-write_one-clause-limit
 write_seq-returns-in_err-write_one-clause-limit t c = λ e.
