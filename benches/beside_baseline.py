@@ -2,8 +2,8 @@
 
 The modules are those of plain_runs. By `proceed` and `apply` a module's time is the user time of a run that repeats it
 2N times less that of a run that repeats it N times, divided by N. So the time to start falls out. N is chosen so that
-the difference is 0.4 seconds at least. Of the copy of a link, with files, a whole run is taken. All take turns, and of
-each run the fastest of seven is taken.
+the second run takes 0.4 seconds at least, or 5 by the clock: on a busy machine user time grows slowly. Of the copy of a
+link, with files, a whole run is taken. All take turns, and of each run the fastest of seven is taken.
 """
 
 import math
@@ -11,13 +11,15 @@ import os
 import shutil
 import subprocess
 import sys
+import time
 from collections import namedtuple
 
 import plain_runs
 import programs
 
 BASELINE = os.path.join(os.path.dirname(os.path.abspath(__file__)), "baseline", "src", "main.rs")
-ROUNDS, LEAST_SECONDS = 7, 0.4
+ROUNDS = 7
+LEAST_SECONDS, MOST_ELAPSED = 0.4, 5
 COPY = "link-copy"
 NAMES = [f"plain-{name}" for name in plain_runs.MODULES]
 
@@ -51,7 +53,7 @@ def built(folder):
 
 
 def user_seconds(words):
-    started = subprocess.Popen(words, stdout=subprocess.DEVNULL)
+    started = subprocess.Popen(words, stdin=subprocess.DEVNULL, stdout=subprocess.DEVNULL)
     _, status, used = os.wait4(started.pid, 0)
     started.returncode = os.waitstatus_to_exitcode(status)
     if started.returncode:
@@ -59,9 +61,20 @@ def user_seconds(words):
     return used.ru_utime
 
 
+def times_enough(side):
+    """How often a side repeats the module so that a run takes long enough."""
+    times = 1
+    while True:
+        begun = time.monotonic()
+        seconds = user_seconds(side.words(times))
+        if seconds >= LEAST_SECONDS or time.monotonic() - begun >= MOST_ELAPSED:
+            return times
+        times *= 2
+
+
 def said(words):
     """What a run prints, if it ends well."""
-    ran = subprocess.run(words, capture_output=True, text=True)
+    ran = subprocess.run(words, stdin=subprocess.DEVNULL, capture_output=True, text=True)
     return ran.stdout if not ran.returncode else f"status {ran.returncode}: {ran.stdout}{ran.stderr}"
 
 
@@ -126,15 +139,7 @@ class Module:
 
     def prepare(self):
         """Finds how often each side repeats the module."""
-        self.times = {}
-        for side in self.sides:
-            times = 1
-            while not self.is_copy and self.difference(side, times) < LEAST_SECONDS:
-                times *= 2
-            self.times[side.name] = times
-
-    def difference(self, side, times):
-        return user_seconds(side.words(2 * times)) - user_seconds(side.words(times))
+        self.times = {side.name: 1 if self.is_copy else times_enough(side) for side in self.sides}
 
     def measure(self):
         """Each side once."""
