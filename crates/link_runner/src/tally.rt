@@ -40,8 +40,8 @@ impl Ended {
     }
 
     /// Whether the link has ended.
-    fn has(self, link: Link) -> bool
-        ensures { result ≡ flag_of self link }
+    fn has(&self, link: Link) -> bool
+        ensures { result ≡ flag_of self.now link }
     {
         match link {
             Link::Zero => self.first,
@@ -64,16 +64,16 @@ impl Ended {
     }
 
     /// Whether some process wants a byte of the link, and it has not ended.
-    fn can_be_asked<M: Machine>(self, machine: &M, link: Link) -> bool
-        ensures { (w : World) → M.shows machine.now w → result ≡ (wants link w && not (flag_of self link)) }
+    fn can_be_asked<M: Machine>(&self, machine: &M, link: Link) -> bool
+        ensures { (w : World) → M.shows machine.now w → result ≡ (wants link w && not (flag_of self.now link)) }
     {
         machine.wants(link) && !self.has(link)
     }
 
     /// The lowest link of which some process wants a byte, and that has not ended.
-    pub(crate) fn next<M: Machine>(self, machine: &M) -> Option<Link>
+    pub(crate) fn next<M: Machine>(&self, machine: &M) -> Option<Link>
         ensures { (w : World) → M.shows machine.now w
-            → result ≡ first_link (λ link. wants link w && not (flag_of self link)) }
+            → result ≡ first_link (λ link. wants link w && not (flag_of self.now link)) }
     {
         if self.can_be_asked(machine, Link::Zero) {
             Some(Link::Zero)
