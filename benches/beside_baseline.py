@@ -4,16 +4,21 @@ The modules are those of plain_runs. By `proceed` and `apply` a module's time is
 2N times less that of a run that repeats it N times, divided by N. So the time to start falls out. N is chosen so that
 the second run takes 0.4 seconds at least, or 5 by the clock: on a busy machine user time grows slowly. Of the copy of a
 link, with files, a whole run is taken. All take turns, and of each run the fastest of seven is taken.
+
+What a byte of the copy takes is counted in machine instructions too, by callgrind, which does not depend on what else
+runs: those of a run that copies 150,000 bytes less those of one that copies 50,000, divided by 100,000.
 """
 
 import math
 import os
+import re
 import shutil
 import subprocess
 import sys
 import time
 from collections import namedtuple
 
+import links
 import plain_runs
 import programs
 
@@ -26,6 +31,10 @@ NAMES = [f"plain-{name}" for name in plain_runs.MODULES]
 # How many times as fast as the baseline each side is to be at least, and `proceed` in the mean of all modules.
 LEAST = {"proceed": 1.6, "apply": 0.6, "tpm run": 1.0}
 LEAST_MEAN = 1.8
+
+# How many bytes are copied by the runs that are counted, and how many machine instructions a byte may take.
+COUNTED = (50_000, 150_000)
+MOST_INSTRUCTIONS = 600
 
 # What runs a module: its name, and the words of the run that repeats a module's file so many times.
 Side = namedtuple("Side", "name words")
@@ -81,6 +90,36 @@ def said(words):
 def read(path):
     with open(path, "rb") as file:
         return file.read()
+
+
+def instructions(words):
+    """How many machine instructions a run takes."""
+    counter = ["valgrind", "--tool=callgrind", f"--callgrind-out-file={os.devnull}"]
+    ran = subprocess.run([*counter, *words], stdin=subprocess.DEVNULL, capture_output=True, text=True)
+    found = re.search(r"Collected : (\d+)", ran.stderr)
+    if ran.returncode or not found:
+        sys.exit(f"figures: {' '.join(words)} was not counted:\n{ran.stderr}")
+    return int(found[1])
+
+
+def copying(length, folder):
+    """The words of a run that copies so many bytes from file to file."""
+    file = os.path.join(folder, f"copying-{length}")
+    for name, data in ((file, links.copying(length).file), (f"{file}.in", plain_runs.copied()[:length])):
+        with open(name, "wb") as out:
+            out.write(data)
+    return [programs.TPM, "run", file, "--in0", f"{file}.in", "--out0", f"{file}.out"]
+
+
+def is_copy_costly(folder):
+    """Whether a byte of the copy takes too many machine instructions, where they can be counted."""
+    if not shutil.which("valgrind"):
+        print("machine instructions are not counted, since there is no valgrind")
+        return False
+    less, more = (instructions(copying(length, folder)) for length in COUNTED)
+    each = (more - less) / (COUNTED[1] - COUNTED[0])
+    print(f"a byte of the copy takes {each:,.0f} machine instructions; at most {MOST_INSTRUCTIONS} are wanted")
+    return each > MOST_INSTRUCTIONS
 
 
 class Module:
@@ -190,4 +229,5 @@ def compare(names, folder):
         for module in modules:
             module.measure()
     slow = [module.show() for module in modules]
-    return right and not any([*slow, is_mean_low(modules)])
+    costly = any(module.is_copy for module in modules) and is_copy_costly(folder)
+    return right and not any([*slow, is_mean_low(modules), costly])
