@@ -37,16 +37,22 @@ impl From<Stop> for Cause {
     }
 }
 
+/// What is shown the machine before each Step.
+pub trait Observer: Drop {
+    fn observe(&mut self, machine: &Checked<'_>);
+}
+
 /// A machine that runs any module, however faulty, up to a number of bytes.
 #[derive(Drop)]
-pub struct Bounded<'a> {
+pub struct Bounded<'a, O: Observer> {
     checked: Checked<'a>,
+    observer: O,
     limit: u64,
     /// The message that the last event sent.
     message: Option<Exchange>,
 }
 
-impl<'a> Model for Bounded<'a> {
+impl<'a, O: Observer> Model for Bounded<'a, O> {
     ghost use Rattle.std.specs.Prelude.{◌≤◌};
     ghost use Rattle.machine_state.specs.Happens.{most_executed};
     ghost use Rattle.machine.specs.Bounding.{BoundedExecution, HasMessage, bytes_of};
@@ -83,14 +89,15 @@ fn exchange_of(act: Act) -> Option<Exchange>
     }
 }
 
-impl<'a> Bounded<'a> {
+impl<'a, O: Observer> Bounded<'a, O> {
     /// The machine of a module that is loaded. It stops before it has executed more bytes than the limit says, or than
-    /// any machine does.
+    /// any machine does. The observer is shown it before each Step.
     pub fn load(
         alloc: Global,
         module: &'a Module<'a>,
         limit: u64,
-    ) -> Result<Bounded<'a>, AllocError>
+        observer: O,
+    ) -> Result<Self, AllocError>
         ensures value { let m = «module».now in
             let most = min limit most_executed in
             IfOk result (λ b. b ≡ record { contents = m; world = loaded m; limit = most; last = [] }) }
@@ -99,6 +106,7 @@ impl<'a> Bounded<'a> {
         let checked = Checked::load(alloc, module)?;
         Ok(Bounded {
             checked,
+            observer,
             limit: limit.min(MOST_EXECUTED),
             message: None,
         })
@@ -122,6 +130,7 @@ impl<'a> Bounded<'a> {
         if self.checked.executed() >= self.limit {
             return Err(Cause::Limit);
         }
+        self.observer.observe(&self.checked);
         self.message = None;
         let act = self.checked.advance(Event::Step {
             slice: false,
@@ -145,7 +154,7 @@ impl<'a> Bounded<'a> {
     }
 }
 
-impl<'a> Machine for Bounded<'a> {
+impl<'a, O: Observer> Machine for Bounded<'a, O> {
     ghost use Rattle.link_runs.specs.Awaiting.{awaited};
     ghost use Rattle.std.proofs.Common.{ap};
     ghost use Rattle.machine.specs.Bounding.{Shows, HasStopped};

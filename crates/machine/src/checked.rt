@@ -142,6 +142,20 @@ impl<'a> Checked<'a> {
         self.machine.traffic.running().is_some()
     }
 
+    /// The process that runs.
+    pub fn runner(&self) -> Option<u64>
+        ensures { result ≡ self.now.world.queue.running }
+    {
+        self.machine.traffic.running()
+    }
+
+    /// The module that runs.
+    pub fn module(&self) -> &Module<'a>
+        ensures { result.now ≡ self.now.contents }
+    {
+        self.module
+    }
+
     /// The fault that the machine is at.
     pub fn fault(&self) -> Option<Fault>
         ensures { result ≡ self.now.world.fault }

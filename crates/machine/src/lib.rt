@@ -4,5 +4,5 @@
 mod bounded;
 mod checked;
 
-pub use bounded::{Bounded, Cause};
+pub use bounded::{Bounded, Cause, Observer};
 pub use checked::{Checked, Stop};

@@ -8,7 +8,7 @@ use Rattle.machine.proofs.Bounding.{did}
 use Rattle.machine.proofs.bounded.Bounded.step.Goals as goal
 
 pub returns : goal.returns
-returns c =
+returns g c =
     let inside = c.self.inside in
     let memory = c.advance.new.self.world.memory in
     let before : BoundedExecution = record {

@@ -8,7 +8,7 @@ use Rattle.machine.proofs.Bounding.{taken_so, not_taken}
 use Rattle.machine.proofs.bounded.Bounded.take.Goals as goal
 
 pub returns-in_err-advance-clause-takes : goal.returns-in_err-advance-clause-takes
-returns-in_err-advance-clause-takes c w shows =
+returns-in_err-advance-clause-takes g c w shows =
     let p = err_from_is_err_and c.from_residual.result c.from_residual.ensures.1 in
     let stop = c.in_err-advance.field-0.0 in
     let inside = c.self.inside in
@@ -32,7 +32,7 @@ returns-in_err-advance-clause-takes c w shows =
     HasStopped after v (cause_of stop))) c.self.view_is stops)
 
 pub returns-clause-takes : goal.returns-clause-takes
-returns-clause-takes c w shows =
+returns-clause-takes g c w shows =
     let inside = c.self.inside in
     let before : BoundedExecution = record {
       contents = inside.checked.contents;
