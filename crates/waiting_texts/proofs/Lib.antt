@@ -1,0 +1,2 @@
+pub mod Resting
+pub mod Deadlocked

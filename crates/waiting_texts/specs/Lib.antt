@@ -1,0 +1,3 @@
+pub mod Resting
+pub mod Waits
+pub mod Lines
