@@ -24,7 +24,15 @@ fn run(alloc: Global, line: &str, folder: &Folder, room: usize) -> Option<(u8, V
     let mut files = CaseFiles { alloc, folder };
     let mut out = Stream::new(alloc, room);
     let mut err = Stream::new(alloc, usize::MAX);
-    let status = act(alloc, words.as_slice(), &mut files, &mut out, &mut err);
+    let trace = Stream::new(alloc, 0);
+    let status = act(
+        alloc,
+        words.as_slice(),
+        &mut files,
+        &mut out,
+        &mut err,
+        trace,
+    );
     Some((status, out.into_bytes(), err.into_bytes()))
 }
 

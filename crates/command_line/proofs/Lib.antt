@@ -1,2 +1,3 @@
 pub mod SubcommandsHavePaths
 pub mod Matched
+pub mod Numbers

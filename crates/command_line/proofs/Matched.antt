@@ -1,5 +1,5 @@
 -- From what the parser's getters return to what the words ask for.
-use Rattle.std.proofs.Common.{◌≡◌, List, [], ◌∷◌, true, Option, Some, None, option_map, option_and_then, IsSome, inl}
+use Rattle.std.proofs.Common.{◌≡◌, List, [], ◌∷◌, Bool, true, cond, Option, Some, None, option_map, option_and_then, IsSome, inl}
 use Rattle.std.proofs.Common.{inr, refl, ap, ap₂, sym, ◌∙◌}
 use Rattle.std.specs.Prelude.{Box}
 use Rattle.std.specs.Box.{box_value}
@@ -19,7 +19,8 @@ use Rattle.command_line.specs.declared.lines.Line.{Line}
 use Rattle.command_line.specs.declared.lines.LineFault.{LineFault}
 use Rattle.command_line.specs.declared.lines.LineFault.TheVariants as faults
 use Rattle.command_line.specs.Asked.{Asked, asked_of}
-use Rattle.command_line.specs.CommandLine.{entered_by, unless_faulty, line_of, tpm}
+use Rattle.command_line.specs.CommandLine.{entered_by, unless_faulty, line_of, taken_for, tpm}
+use Rattle.command_line.specs.Fitting.{is_fit, if_fit}
 use Rattle.command_line.specs.LineFaults.{FaultOf, IsFaultAt}
 use Rattle.command_line.proofs.SubcommandsHavePaths.{given}
 
@@ -52,8 +53,10 @@ some_kind k (x ∷ xs) asked among = refl
 pub misused : (words : List Text) (error : Error) (fault : LineFault) → HasKind (fault_of tpm words) error
     → FaultOf error fault → IsFaultAt words fault
 misused words error faults.Memory has of = tt
+misused words error (faults.Misfit misfit) has of = absurd of
 misused words error (faults.Usage shown) (inl starved) of = absurd (of.1 starved)
-misused words error (faults.Usage shown) (inr among) of = some_kind (kind_of error) (fault_of tpm words) _ among
+misused words error (faults.Usage shown) (inr among) of =
+    ap (option_and_then if_fit) (some_kind (kind_of error) (fault_of tpm words) _ among)
 
 pub tpm_is_simple : is_simple tpm ≡ true
 tpm_is_simple = refl
@@ -61,11 +64,11 @@ tpm_is_simple = refl
 pub tpm_is_free : is_simple_and_free tpm ≡ true
 tpm_is_free = refl
 
--- what the words ask for, where the parser of the command took them
+-- what the command takes the words for, where its parser took them
 pub line_is : (app : App) (words : List Text) (matches : ArgMatches) (asked : Option Asked) → app ≡ tpm
     → (is_simple_and_free app ≡ true → fault_of app words ≡ []) → HasMatchesOf app words matches
     → asked ≡ option_and_then entered_by (subcommand_rows_of matches)
-    → (fault_of tpm words ≡ []) × (line_of words ≡ asked)
+    → (fault_of tpm words ≡ []) × (taken_for words ≡ asked)
 line_is app words matches asked is kinds has by =
     let none : fault_of tpm words ≡ [] =
     ap (λ (a : App). fault_of a words) (sym is) ∙ kinds (ap is_simple_and_free is ∙ tpm_is_free) in
@@ -78,9 +81,15 @@ line_is app words matches asked is kinds has by =
 
 -- what the parser took asks for something
 pub some_asked : (words : List Text) (asked : Option Line) → fault_of tpm words ≡ []
-    → line_of words ≡ option_map asked_of asked → IsSome asked
+    → taken_for words ≡ option_map asked_of asked → IsSome asked
 some_asked words None none is = let found = given words none in absurd (nothing (sym is ∙ found.1))
   where
     nothing : {x : Asked} → None ≡ Some x → ⊥
     nothing e = cc
 some_asked words (Some line) none is = refl
+
+-- what the words ask for, by whether that fits together
+pub asks_for : (words : List Text) (line : Line) (none : Bool) → taken_for words ≡ Some (asked_of line)
+    → none ≡ is_fit (asked_of line) → line_of words ≡ cond none (Some (asked_of line)) None
+asks_for words line none taken fit =
+    ap (option_and_then if_fit) taken ∙ ap (λ (b : Bool). cond b (Some (asked_of line)) None) (sym fit)

@@ -17,23 +17,24 @@ use Rattle.clap.specs.Walk.{walked_from, takes_several, to_positional, after_ste
 use Rattle.clap.specs.Walk.{nothing_held, first_of, finished}
 use Rattle.clap.specs.Simple.{Shape, built, built_leaf, inherited, on_top, marked_built, new_rule, filled}
 use Rattle.clap.specs.Simple.{with_index, help_rule, entered, rows_at, names_of, argument_words}
-use Rattle.clap.specs.Walk.{rows_after, answers_to, with_default, has_row}
+use Rattle.clap.specs.Walk.{rows_after, answers_to, with_default, default_rows, has_row, reading_by}
 use Rattle.clap.specs.Facts.{explicit_source}
 use Rattle.clap.specs.Takes.{is_given}
 use Rattle.clap.specs.declared.builder.value_parser.Reading.{Reading}
 use Rattle.clap.specs.declared.parser.matches.ValueSource.{ValueSource}
-use Rattle.clap.specs.declared.parser.matches.ValueSource.TheVariants.{CommandLine}
-use Rattle.clap.specs.declared.builder.action.ArgAction.TheVariants.{Set}
+use Rattle.clap.specs.declared.parser.matches.ValueSource.TheVariants.{CommandLine, DefaultValue}
+use Rattle.clap.specs.declared.builder.action.ArgAction.TheVariants.{Set, SetTrue}
 use Rattle.clap.specs.declared.builder.value_parser.ValueParser.TheVariants as vp
 use Rattle.clap.specs.Faults.{fault_of, entered_fault, level_fault, check_fault, walk_fault, turn_fault, step_fault}
 use Rattle.clap.specs.Faults.{word_fault, other_fault, flag_word_fault, positional_fault, use_fault, settle_fault}
 use Rattle.clap.specs.Faults.{react_fault, option_fault, long_fault, short_fault, bundle_step_fault, flags_fault}
 use Rattle.clap.specs.Faults.{bundle_fault, stray_fault, defaults_fault}
 use Rattle.command_line.specs.Links.{input_names, output_names}
-use Rattle.command_line.specs.Asked.{Asked, compiles, upgrades, verifies, runs, lists, explains}
-use Rattle.command_line.specs.CommandLine.{path_rule, paths_given}
-use Rattle.command_line.specs.CommandLine.{compile_shape, upgrade_shape, subcommand_shape, run_shape, tpm, named}
-use Rattle.command_line.specs.CommandLine.{link_rule, entered_by, unless_faulty, compiled_by, upgraded_by, line_of}
+use Rattle.command_line.specs.Asked.{Asked, compiles, upgrades, verifies, runs, debugs, lists, explains}
+use Rattle.command_line.specs.CommandLine.{path_rule, paths_given, flag_given}
+use Rattle.command_line.specs.CommandLine.{compile_shape, upgrade_shape, subcommand_shape, run_shape, debug_shape, tpm}
+use Rattle.command_line.specs.CommandLine.{named, option_rule, flag_rule, entered_by, unless_faulty, compiled_by}
+use Rattle.command_line.specs.CommandLine.{upgraded_by, debugged_by, taken_for}
 
 -- ---- the arguments of a subcommand
 
@@ -49,15 +50,20 @@ value_rule id long index names required = record (new_rule id) {
   required = required;
 }
 
-abbrev flag_rule : Rule
-flag_rule = filled help_rule
+abbrev help_flag : Rule
+help_flag = filled help_rule
+
+-- a flag that is true where it is used
+abbrev used_flag : Text → Rule
+used_flag name = filled (flag_rule name)
 
 -- the arguments that a look-up can find
 data IsOurs : Option Rule → Type 0 where
   no_rule : IsOurs None
   a_value : (id : Text) (long : Option Text) (index : Option ℕ) (names : ℕ) (required : Bool)
       → IsOurs (Some (value_rule id long index names required))
-  the_flag : IsOurs (Some flag_rule)
+  a_flag : (name : Text) → IsOurs (Some (used_flag name))
+  the_flag : IsOurs (Some help_flag)
 
 abbrev AllOurs : List Rule → Type 0
 AllOurs [] = Unit {0}
@@ -113,6 +119,12 @@ valued-used : (o : Option Rule) (again : Bool) (values : List Text) (rows : List
     → AllValued rows → AllValued (used_by_id o values rows)
 valued-used o again values rows no_rule fault all = all
 valued-used o again values rows the_flag fault all = all
+valued-used o again [] rows (a_flag name) fault all =
+    valued-with_values name _ CommandLine (codes "true") [] (without name rows)
+    (valued-at_row name (λ _. []) [] rows (λ r has. tt) tt all)
+valued-used o again (v ∷ vs) rows (a_flag name) fault all =
+    valued-with_values name _ CommandLine v vs (without name rows)
+    (valued-at_row name (λ _. []) [] rows (λ r has. tt) tt all)
 valued-used o again [] rows (a_value id long index names required) fault all = absurd (cc)
 valued-used o again (v ∷ vs) rows (a_value id long index names required) fault all =
     valued-with_values id _ CommandLine v vs (without id rows)
@@ -168,7 +180,9 @@ module _ (rules : List Rule) (ours : AllOurs rules) where
   valued-long o again v h no_rule fault all = all
   valued-long o again v h (a_value id long index names required) fault all =
       valued-option (value_rule id long index names required) again v h (a_value id long index names required) fault all
-  valued-long o again None h the_flag fault all = valued-reacted again flag_rule [] h the_flag fault all
+  valued-long o again None h (a_flag name) fault all = valued-reacted again (used_flag name) [] h (a_flag name) fault all
+  valued-long o again (Some v) h (a_flag name) fault all = all
+  valued-long o again None h the_flag fault all = valued-reacted again help_flag [] h the_flag fault all
   valued-long o again (Some v) h the_flag fault all = all
 
   -- one letter of `-abc`
@@ -181,10 +195,14 @@ module _ (rules : List Rule) (ours : AllOurs rules) where
   valued-short o again rest h after after_fault (a_value id long index names required) later fault all =
       valued-option (value_rule id long index names required) again (attached_value rest) h
       (a_value id long index names required) fault all
+  valued-short o again rest h after after_fault (a_flag name) later fault all =
+      let flag = used_flag name in
+      let parts = both_empty (react_fault rules again flag [] h) (after_fault (reacted rules flag [] h)) fault in
+      later (reacted rules flag [] h) parts.1 (valued-reacted again flag [] h (a_flag name) parts.0 all)
   valued-short o again rest h after after_fault the_flag later fault all =
       let parts =
-      both_empty (react_fault rules again flag_rule [] h) (after_fault (reacted rules flag_rule [] h)) fault in
-      later (reacted rules flag_rule [] h) parts.1 (valued-reacted again flag_rule [] h the_flag parts.0 all)
+      both_empty (react_fault rules again help_flag [] h) (after_fault (reacted rules help_flag [] h)) fault in
+      later (reacted rules help_flag [] h) parts.1 (valued-reacted again help_flag [] h the_flag parts.0 all)
 
   valued-letter : (o : Option ℕ) (again : Bool) (flags : Text) (skip : ℕ) (so_far : Outcome) (h : Held)
       (after : Text → ℕ → Outcome → Held → Held × Outcome)
@@ -324,19 +342,20 @@ module _ (s : Shape) (ours : AllOurs s.rules) where
       (walk_fault s [] (walked s.rules [] w word) words) fault in
       valued-walk words (walked s.rules [] w word) parts.1 (valued-turn word w parts.0 all)
 
--- no argument has a default
-no_default : (b : Bool) (rows : List Row) → cond b rows rows ≡ rows
-no_default true rows = refl
-no_default false rows = refl
+-- a default is a value
+valued-default : (r : Rule) (rows : List Row) → IsOurs (Some r) → AllValued rows → AllValued (with_default rows r)
+valued-default r rows (a_value id long index names required) all = valued-cond (has_row id rows) rows rows all all
+valued-default r rows (a_flag name) all =
+    let how = reading_by (used_flag name) in
+    valued-cond (has_row name rows) rows (default_rows name how (codes "false" ∷ []) rows) all
+    (valued-with_values name how DefaultValue (codes "false") [] rows all)
+valued-default r rows the_flag all = valued-cond (has_row (codes "help") rows) rows rows all all
 
-one_default : (r : Rule) (rows : List Row) → IsOurs (Some r) → with_default rows r ≡ rows
-one_default r rows (a_value id long index names required) = no_default (has_row id rows) rows
-one_default r rows the_flag = no_default (has_row (codes "help") rows) rows
-
-no_defaults : (rules : List Rule) → AllOurs rules → (rows : List Row) → fold with_default rows rules ≡ rows
-no_defaults [] all rows = refl
-no_defaults (r ∷ rs) all rows =
-    ap (λ (xs : List Row). fold with_default xs rs) (one_default r rows all.0) ∙ no_defaults rs all.1 rows
+valued-defaults : (rules : List Rule) → AllOurs rules → (rows : List Row) → AllValued rows
+    → AllValued (fold with_default rows rules)
+valued-defaults [] ours rows all = all
+valued-defaults (r ∷ rs) ours rows all =
+    valued-defaults rs ours.1 (with_default rows r) (valued-default r rows ours.0 all)
 
 -- ---- what is given
 
@@ -386,7 +405,7 @@ path_given id s words is fault =
     let all = valued-settled s.rules is.ours s.args_override_self end inner.0
     (valued-walk s is.ours words (walk_from nothing_held) outer.0 tt) in
     let valued : AllValued (finished s.rules end) =
-    subst AllValued (sym (no_defaults s.rules is.ours (settled s.rules end).rows)) all in
+    valued-defaults s.rules is.ours (settled s.rules end).rows all in
     given_value id (finished s.rules end) valued (is.misses (finished s.rules end) last.1)
 
 -- ---- the subcommands
@@ -400,6 +419,9 @@ plain_leaf name = leaf (subcommand_shape name)
 
 abbrev run_leaf : Shape
 run_leaf = leaf run_shape
+
+abbrev debug_leaf : Shape
+debug_leaf = leaf debug_shape
 
 abbrev compile_leaf : Shape
 compile_leaf = leaf compile_shape
@@ -440,7 +462,7 @@ new_is_required = record {
   misses = λ rows. second_there (is_given (codes "OLD") rows) (is_given (codes "NEW") rows);
 }
 
-option_ours : (name : Text) → IsOurs (Some (filled (link_rule name)))
+option_ours : (name : Text) → IsOurs (Some (filled (option_rule name)))
 option_ours name = a_value name (Some name) None 1 false
 
 plain_is_leaf : (name : Text) → IsLeaf (codes "MOD") (plain_leaf name)
@@ -449,46 +471,62 @@ plain_is_leaf name = record {
   misses = λ rows. is_there (is_given (codes "MOD") rows);
 }
 
-run_is_leaf : IsLeaf (codes "MOD") run_leaf
-run_is_leaf = record {
-  ours = (
-    path_ours (codes "MOD") 1,
+-- the options for the links, before these arguments
+links_ours : (rules : List Rule) → AllOurs rules
+    → AllOurs (filled (option_rule (codes "in0")) ∷ filled (option_rule (codes "in1"))
+    ∷ filled (option_rule (codes "in2")) ∷ filled (option_rule (codes "in3")) ∷ filled (option_rule (codes "out0"))
+    ∷ filled (option_rule (codes "out1")) ∷ filled (option_rule (codes "out2")) ∷ filled (option_rule (codes "out3"))
+    ∷ rules)
+links_ours rules ours = (
+  option_ours (codes "in0"),
+  (
+    option_ours (codes "in1"),
     (
-      option_ours (codes "in0"),
+      option_ours (codes "in2"),
       (
-        option_ours (codes "in1"),
+        option_ours (codes "in3"),
         (
-          option_ours (codes "in2"),
+          option_ours (codes "out0"),
           (
-            option_ours (codes "in3"),
+            option_ours (codes "out1"),
             (
-              option_ours (codes "out0"),
-              (
-                option_ours (codes "out1"),
-                (
-                  option_ours (codes "out2"),
-                  (option_ours (codes "out3"), (the_flag, tt)),
-                ),
-              ),
+              option_ours (codes "out2"),
+              (option_ours (codes "out3"), ours),
             ),
           ),
         ),
       ),
     ),
-  );
+  ),
+)
+
+run_is_leaf : IsLeaf (codes "MOD") run_leaf
+run_is_leaf = record {
+  ours = (path_ours (codes "MOD") 1, links_ours (help_flag ∷ []) (the_flag, tt));
   misses = λ rows. is_there (is_given (codes "MOD") rows);
+}
+
+debug_is_leaf : IsLeaf (codes "FILE") debug_leaf
+debug_is_leaf = record {
+  ours = (
+    path_ours (codes "FILE") 1,
+    links_ours (filled (option_rule (codes "bytes")) ∷ used_flag (codes "trace") ∷ help_flag ∷ [])
+        (option_ours (codes "bytes"), (a_flag (codes "trace"), (the_flag, tt))),
+  );
+  misses = λ rows. is_there (is_given (codes "FILE") rows);
 }
 
 -- ---- the whole line
 
 -- the subcommand that has the name, by which one has
-abbrev among : Bool → Bool → Bool → Bool → Bool → Bool → Option Shape
-among a b c d x u =
+abbrev among : Bool → Bool → Bool → Bool → Bool → Bool → Bool → Option Shape
+among a b c g d x u =
     cond a (Some compile_leaf)
     (cond b (Some (plain_leaf (codes "verify")))
     (cond c (Some run_leaf)
+    (cond g (Some debug_leaf)
     (cond d (Some (plain_leaf (codes "list")))
-    (cond x (Some (plain_leaf (codes "explain"))) (cond u (Some upgrade_leaf) None)))))
+    (cond x (Some (plain_leaf (codes "explain"))) (cond u (Some upgrade_leaf) None))))))
 
 -- what is asked for where both paths are given
 both_given : (rows : List Row) (source out : Text) → first_of (codes "SRC") rows ≡ Some source
@@ -513,48 +551,56 @@ entered_given : (stop : Option (Text × List Text)) → entered_fault (built tpm
     → (asked : Asked) × (option_and_then entered_by (entered (built tpm) stop) ≡ Some asked)
 entered_given None fault is = absurd (cc)
 entered_given (Some p) fault is = go (answers_to p.0 (codes "compile", [])) (answers_to p.0 (codes "verify", []))
-    (answers_to p.0 (codes "run", [])) (answers_to p.0 (codes "list", [])) (answers_to p.0 (codes "explain", []))
-    (answers_to p.0 (codes "upgrade", [])) fault is
+    (answers_to p.0 (codes "run", [])) (answers_to p.0 (codes "debug", [])) (answers_to p.0 (codes "list", []))
+    (answers_to p.0 (codes "explain", [])) (answers_to p.0 (codes "upgrade", [])) fault is
   where
-    go : (a b c d x u : Bool)
-        → option_map_or (λ s. level_fault s [] nothing_held p.1 false []) (among a b c d x u) [] ≡ []
-        → is_some (option_map (λ s. rows_at s p.1) (among a b c d x u)) ≡ true
+    go : (a b c g d x u : Bool)
+        → option_map_or (λ s. level_fault s [] nothing_held p.1 false []) (among a b c g d x u) [] ≡ []
+        → is_some (option_map (λ s. rows_at s p.1) (among a b c g d x u)) ≡ true
         → (asked : Asked)
-        × (option_and_then entered_by (option_map (λ s. rows_at s p.1) (among a b c d x u)) ≡ Some asked)
-    go true b c d x u f e =
+        × (option_and_then entered_by (option_map (λ s. rows_at s p.1) (among a b c g d x u)) ≡ Some asked)
+    go true b c g d x u f e =
         let source = path_given (codes "SRC") compile_leaf p.1 source_is_required f in
         let out = path_given (codes "OUT") compile_leaf p.1 out_is_required f in
         (compiles source.0 out.0, both_given (rows_of_leaf compile_leaf p.1) source.0 out.0 source.1 out.1)
-    go false true c d x u f e =
+    go false true c g d x u f e =
         let path = path_given (codes "MOD") (plain_leaf (codes "verify")) p.1 (plain_is_leaf (codes "verify")) f in
         let rows = rows_of_leaf (plain_leaf (codes "verify")) p.1 in
         (verifies path.0, ap (option_and_then (named (codes "verify") rows)) path.1)
-    go false false true d x u f e =
+    go false false true g d x u f e =
         let path = path_given (codes "MOD") run_leaf p.1 run_is_leaf f in
         let rows = rows_of_leaf run_leaf p.1 in (
           runs path.0 (paths_given input_names rows) (paths_given output_names rows),
           ap (option_and_then (named (codes "run") rows)) path.1,
         )
-    go false false false true x u f e =
+    go false false false true d x u f e =
+        let path = path_given (codes "FILE") debug_leaf p.1 debug_is_leaf f in
+        let rows = rows_of_leaf debug_leaf p.1 in (
+          debugs path.0 (paths_given input_names rows) (paths_given output_names rows)
+              (first_of (codes "bytes") rows) (flag_given (codes "trace") rows),
+          ap (option_map (λ file. debugs file (paths_given input_names rows) (paths_given output_names rows)
+              (first_of (codes "bytes") rows) (flag_given (codes "trace") rows))) path.1,
+        )
+    go false false false false true x u f e =
         let path = path_given (codes "MOD") (plain_leaf (codes "list")) p.1 (plain_is_leaf (codes "list")) f in
         let rows = rows_of_leaf (plain_leaf (codes "list")) p.1 in
         (lists path.0, ap (option_and_then (named (codes "list") rows)) path.1)
-    go false false false false true u f e =
+    go false false false false false true u f e =
         let path = path_given (codes "MOD") (plain_leaf (codes "explain")) p.1 (plain_is_leaf (codes "explain")) f in
         let rows = rows_of_leaf (plain_leaf (codes "explain")) p.1 in
         (explains path.0, ap (option_and_then (named (codes "explain") rows)) path.1)
-    go false false false false false true f e =
+    go false false false false false false true f e =
         let old = path_given (codes "OLD") upgrade_leaf p.1 old_is_required f in
         let new = path_given (codes "NEW") upgrade_leaf p.1 new_is_required f in
         (upgrades old.0 new.0, both_named (rows_of_leaf upgrade_leaf p.1) old.0 new.0 old.1 new.1)
-    go false false false false false false f e = absurd (cc)
+    go false false false false false false false f e = absurd (cc)
 
 -- a subcommand that is not missed is there
 is_entered : (rows : List Row) (b : Bool) → check_fault (built tpm).top rows b ≡ [] → b ≡ true
 is_entered rows true fault = refl
 is_entered rows false fault = absurd (cc)
 
-pub given : (words : List Text) → fault_of tpm words ≡ [] → (asked : Asked) × (line_of words ≡ Some asked)
+pub given : (words : List Text) → fault_of tpm words ≡ [] → (asked : Asked) × (taken_for words ≡ Some asked)
 given words fault =
     let a = built tpm in
     let args = argument_words tpm words in

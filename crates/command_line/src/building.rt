@@ -4,11 +4,12 @@ ghost use Rattle.std.specs.Prelude.{◌≡◌, IfOk, false, codes};
 ghost use Rattle.clap.specs.Simple.{app_of, shape_of, with_subcommand};
 ghost use Rattle.clap.specs.declared.builder.command.Command.TheViews.{out-Command as fields_of};
 ghost use Rattle.command_line.specs.Links.{names_of};
-ghost use Rattle.command_line.specs.CommandLine.{compile_shape, run_shape, subcommand_shape, tpm, upgrade_shape};
-ghost use Rattle.command_line.specs.CommandLine.{with_links, with_option, with_path};
+ghost use Rattle.command_line.specs.CommandLine.{compile_shape, debug_shape, run_shape, subcommand_shape, tpm};
+ghost use Rattle.command_line.specs.CommandLine.{upgrade_shape, with_all_links, with_flag, with_links, with_option};
+ghost use Rattle.command_line.specs.CommandLine.{with_path};
 
 use crate::links::{LinkNames, input_names, output_names};
-use clap::{Arg, Command};
+use clap::{Arg, ArgAction, Command};
 use std::alloc::{AllocError, Global};
 
 /// A command with one more argument, which is the path of a file.
@@ -72,18 +73,22 @@ fn upgrade_subcommand<'a>(alloc: Global) -> Result<Command<'a>, AllocError>
     )
 }
 
-/// A command with one more option, which takes the path of a file.
+/// A command with one more option, which takes a value.
 fn with_option<'a>(
     alloc: Global,
     command: Command<'a>,
     name: &'a str,
+    value: &'a str,
     help: &'a str,
 ) -> Result<Command<'a>, AllocError>
     ensures shape { IfOk result (λ c. shape_of c ≡ with_option name.entry.now (shape_of command.entry)) }
     ensures local { (fields_of command.entry).has_globals ≡ false
         → IfOk result (λ c. (fields_of c).has_globals ≡ false) }
 {
-    let option = Arg::new(alloc, name).long(name).value_name("F").help(help);
+    let option = Arg::new(alloc, name)
+        .long(name)
+        .value_name(value)
+        .help(help);
     command.arg(option)
 }
 
@@ -98,10 +103,48 @@ fn with_links<'a>(
     ensures local { (fields_of command.entry).has_globals ≡ false
         → IfOk result (λ c. (fields_of c).has_globals ≡ false) }
 {
-    let command = with_option(alloc, command, names.first, help)?;
-    let command = with_option(alloc, command, names.second, help)?;
-    let command = with_option(alloc, command, names.third, help)?;
-    with_option(alloc, command, names.fourth, help)
+    let command = with_option(alloc, command, names.first, "F", help)?;
+    let command = with_option(alloc, command, names.second, "F", help)?;
+    let command = with_option(alloc, command, names.third, "F", help)?;
+    with_option(alloc, command, names.fourth, "F", help)
+}
+
+/// A command with an option more for each link.
+fn with_all_links<'a>(alloc: Global, command: Command<'a>) -> Result<Command<'a>, AllocError>
+    ensures shape { IfOk result (λ c. shape_of c ≡ with_all_links (shape_of command.entry)) }
+    ensures local { (fields_of command.entry).has_globals ≡ false
+        → IfOk result (λ c. (fields_of c).has_globals ≡ false) }
+{
+    let command = with_links(
+        alloc,
+        command,
+        input_names(),
+        "The path of a file that this link reads, or - for standard input",
+    )?;
+    with_links(
+        alloc,
+        command,
+        output_names(),
+        "The path of a file that this link writes, or - for standard output",
+    )
+}
+
+/// A command with one more option, which takes no value.
+fn with_flag<'a>(
+    alloc: Global,
+    command: Command<'a>,
+    name: &'a str,
+    help: &'a str,
+) -> Result<Command<'a>, AllocError>
+    ensures shape { IfOk result (λ c. shape_of c ≡ with_flag name.entry.now (shape_of command.entry)) }
+    ensures local { (fields_of command.entry).has_globals ≡ false
+        → IfOk result (λ c. (fields_of c).has_globals ≡ false) }
+{
+    let flag = Arg::new(alloc, name)
+        .long(name)
+        .action(ArgAction::SetTrue)
+        .help(help);
+    command.arg(flag)
 }
 
 /// The subcommand that runs a module.
@@ -110,17 +153,36 @@ fn run_subcommand<'a>(alloc: Global) -> Result<Command<'a>, AllocError>
     ensures local { IfOk result (λ c. (fields_of c).has_globals ≡ false) }
 {
     let run = subcommand(alloc, "run", "Runs a module that is certified")?;
-    let run = with_links(
+    with_all_links(alloc, run)
+}
+
+/// The subcommand that runs a module or a source on the machine that checks each rule.
+fn debug_subcommand<'a>(alloc: Global) -> Result<Command<'a>, AllocError>
+    ensures shape { IfOk result (λ c. shape_of c ≡ debug_shape) }
+    ensures local { IfOk result (λ c. (fields_of c).has_globals ≡ false) }
+{
+    let debug = Command::new(alloc, "debug").about(
+        "Runs a module or a source, and tells what each process waits for",
+    );
+    let debug = with_path(
         alloc,
-        run,
-        input_names(),
-        "The path of a file that this link reads",
+        debug,
+        "FILE",
+        "The path of a module file or a source",
     )?;
-    with_links(
+    let debug = with_all_links(alloc, debug)?;
+    let debug = with_option(
         alloc,
-        run,
-        output_names(),
-        "The path of a file that this link writes",
+        debug,
+        "bytes",
+        "N",
+        "How many bytes of code are executed at most",
+    )?;
+    with_flag(
+        alloc,
+        debug,
+        "trace",
+        "Writes each instruction before it is executed",
     )
 }
 
@@ -159,6 +221,23 @@ fn with_run<'a>(alloc: Global, command: Command<'a>) -> Result<Command<'a>, Allo
     command.subcommand(run)
 }
 
+/// A command with one more subcommand, which runs a module or a source and tells what each process waits for.
+fn with_debug<'a>(alloc: Global, command: Command<'a>) -> Result<Command<'a>, AllocError>
+    ensures { IfOk result (λ c. app_of c ≡ with_subcommand (app_of command.entry) debug_shape) }
+{
+    let debug = debug_subcommand(alloc)?;
+    command.subcommand(debug)
+}
+
+/// A command with two more subcommands, which run modules.
+fn with_runs<'a>(alloc: Global, command: Command<'a>) -> Result<Command<'a>, AllocError>
+    ensures { IfOk result (λ c. app_of c
+        ≡ with_subcommand (with_subcommand (app_of command.entry) run_shape) debug_shape) }
+{
+    let command = with_run(alloc, command)?;
+    with_debug(alloc, command)
+}
+
 /// A command with one more subcommand, which compiles a source.
 fn with_compile<'a>(alloc: Global, command: Command<'a>) -> Result<Command<'a>, AllocError>
     ensures { IfOk result (λ c. app_of c ≡ with_subcommand (app_of command.entry) compile_shape) }
@@ -181,13 +260,13 @@ pub fn command<'a>(alloc: Global) -> Result<Command<'a>, AllocError>
 {
     let tpm = Command::new(alloc, "tpm")
         .about(
-            "Compiles occam programs, and verifies, explains, runs, lists and upgrades transputer modules",
+            "Compiles occam programs, and verifies, explains, runs, debugs, lists and upgrades transputer modules",
         )
         .subcommand_required(true)
         .disable_help_subcommand(true);
     let tpm = with_compile(alloc, tpm)?;
     let tpm = with_subcommand(alloc, tpm, "verify", "Tells whether a module is certified")?;
-    let tpm = with_run(alloc, tpm)?;
+    let tpm = with_runs(alloc, tpm)?;
     let tpm = with_descriptions(alloc, tpm)?;
     with_upgrade(alloc, tpm)
 }

@@ -6,6 +6,7 @@ ghost use Rattle.command_line.specs.LineFaults.{FaultOf};
 use crate::links::LinkPaths;
 use clap::error::ErrorKind;
 use std::alloc::AllocError;
+use std::fmt;
 use thiserror::Error;
 
 /// What a command line asks for.
@@ -20,6 +21,16 @@ pub enum Line<'a> {
     Upgrade {
         path: &'a str,
         out: &'a str,
+    },
+    /// A run of the module or the source in a file on the machine that checks each rule, with the files of these paths
+    /// on its links, up to a number of bytes if that is given, as a text. Each instruction is written before it is
+    /// executed, if that is wanted.
+    Debug {
+        path: &'a str,
+        inputs: LinkPaths<'a>,
+        outputs: LinkPaths<'a>,
+        bytes: Option<&'a str>,
+        trace: bool,
     },
     /// What is asked of the module in the file of this path.
     Ask {
@@ -51,12 +62,39 @@ pub struct Usage {
     error: clap::Error,
 }
 
+/// Why what is asked for does not fit together.
+#[derive(Clone, Copy, Debug, PartialEq, Eq)]
+pub enum Misfit {
+    /// The file that is written is the one that is read.
+    SameFile,
+    /// Two output links have one path.
+    SameOutputs,
+    /// Two input links are standard input.
+    SameInputs,
+    /// The number of bytes is none below 2^64.
+    NoNumber,
+}
+
+impl fmt::Display for Misfit {
+    fn fmt<W: fmt::Write>(&self, f: &mut fmt::Formatter<W>) -> fmt::Result {
+        f.write_str(match self {
+            Misfit::SameFile => "the file that is written is the one that is read",
+            Misfit::SameOutputs => "two output links have one path",
+            Misfit::SameInputs => "two input links are standard input",
+            Misfit::NoNumber => "--bytes wants a number below 2^64",
+        })
+    }
+}
+
 /// Why a command line asks for nothing.
 #[derive(Debug, Drop, Error)]
 pub enum LineFault {
     /// The words are no command, or they ask for help.
     #[error("{0}")]
     Usage(Usage),
+    /// The parts of the command do not fit together.
+    #[error("error: {0}\n")]
+    Misfit(Misfit),
     /// Memory ran out.
     #[error("out of memory\n")]
     Memory,

@@ -7,11 +7,12 @@ ghost use Rattle.clap.specs.Walk.{first_of, rows_of};
 ghost use Rattle.command_line.specs.Words.{words_of};
 ghost use Rattle.command_line.specs.Links.{names_of, paths_of};
 ghost use Rattle.command_line.specs.Asked.{asked_of};
-ghost use Rattle.command_line.specs.CommandLine.{compiled_by, entered_by, line_of, named, of_module, paths_given};
-ghost use Rattle.command_line.specs.CommandLine.{upgraded_by};
+ghost use Rattle.command_line.specs.CommandLine.{compiled_by, debugged_by, entered_by, flag_given, line_of, named};
+ghost use Rattle.command_line.specs.CommandLine.{of_module, paths_given, upgraded_by};
 ghost use Rattle.command_line.specs.LineFaults.{IsFaultAt};
 
 use crate::building::command;
+use crate::fitting::misfit;
 use crate::lines::{Line, LineFault, Question};
 use crate::links::{LinkNames, LinkPaths, OnLinks, input_names, output_names};
 use clap::ArgMatches;
@@ -82,6 +83,30 @@ fn upgrade_line<'a>(given: &ArgMatches<'a>) -> Option<Line<'a>>
     Some(Line::Upgrade { path, out })
 }
 
+/// Whether this flag is given.
+fn flag_given(given: &ArgMatches<'_>, name: &str) -> bool
+    ensures { result ≡ flag_given name.now (rows_of (found_of given.now)) }
+{
+    match path_given(given, name) {
+        Some(value) => value == "true",
+        None => false,
+    }
+}
+
+/// A run of the module or the source in a file.
+fn debug_line<'a>(given: &ArgMatches<'a>) -> Option<Line<'a>>
+    ensures { option_map asked_of result ≡ debugged_by (rows_of (found_of given.now)) }
+{
+    let path = path_given(given, "FILE")?;
+    Some(Line::Debug {
+        path,
+        inputs: paths_given(given, input_names()),
+        outputs: paths_given(given, output_names()),
+        bytes: path_given(given, "bytes"),
+        trace: flag_given(given, "trace"),
+    })
+}
+
 /// What the subcommand of this name asks of a module.
 fn module_line<'a>(name: &str, given: &ArgMatches<'a>) -> Option<Line<'a>>
     ensures { option_map asked_of result ≡ of_module name.now (rows_of (found_of given.now)) }
@@ -98,6 +123,8 @@ fn entered<'a>(name: &str, given: &ArgMatches<'a>) -> Option<Line<'a>>
         compile_line(given)
     } else if name == "upgrade" {
         upgrade_line(given)
+    } else if name == "debug" {
+        debug_line(given)
     } else {
         module_line(name, given)
     }
@@ -113,8 +140,8 @@ fn asked<'a>(matches: &ArgMatches<'a>) -> Option<Line<'a>>
 }
 
 /// What the words of a command line ask for, of which the first is the program's name: `compile SRC OUT`, `verify MOD`,
-/// `list MOD`, `explain MOD`, `upgrade OLD NEW`, or `run MOD` with the options `--in0 F` to `--in3 F` and `--out0 F` to
-/// `--out3 F`.
+/// `list MOD`, `explain MOD`, `upgrade OLD NEW`, `run MOD` with the options `--in0 F` to `--in3 F` and `--out0 F` to
+/// `--out3 F`, or `debug FILE` with those, `--bytes N` and `--trace`.
 pub fn line<'a>(alloc: Global, words: &'a [&'a str]) -> Result<Line<'a>, LineFault>
     ensures asked { IfOk result (λ l. line_of (words_of words.entry.now) ≡ Some (asked_of l)) }
     // A body that always reports that memory ran out meets this too, since no clause can say that memory
@@ -123,5 +150,9 @@ pub fn line<'a>(alloc: Global, words: &'a [&'a str]) -> Result<Line<'a>, LineFau
 {
     let matches = command(alloc)?.try_get_matches_from(words)?;
     // The parser takes no words without a subcommand and its paths.
-    Ok(asked(&matches).unwrap())
+    let line = asked(&matches).unwrap();
+    match misfit(line) {
+        Some(misfit) => Err(LineFault::Misfit(misfit)),
+        None => Ok(line),
+    }
 }

@@ -1,14 +1,14 @@
-//! `tpm`: compiles occam programs, and verifies, explains, runs, lists and upgrades transputer modules.
+//! `tpm`: compiles occam programs, and verifies, explains, runs, debugs, lists and upgrades transputer modules.
 #![tactic(auto)]
 
 use command_line::{WordFault, texts};
-use std::io;
+use std::io::{self, Input};
 use std::process::ExitCode;
 use std::rt::{Env, Files};
 use tpm_actions::{MISUSED, STARVED, SystemFiles, act};
 
 /// Hands the words and the files of the system to `act`, and the two streams.
-fn run<R: Env + Files + AllocGlobal>(
+fn run<R: Env + Files + Input + AllocGlobal>(
     rt: &R,
     out: &impl Print,
     err: &impl Print,
@@ -19,9 +19,17 @@ fn run<R: Env + Files + AllocGlobal>(
     for text in &texts {
         words.push(text.as_str())?;
     }
-    let mut files = SystemFiles(rt);
-    let (mut out, mut err) = (io::writer(out), io::writer(err));
-    Ok(act(alloc, words.as_slice(), &mut files, &mut out, &mut err))
+    let mut files = SystemFiles::new(rt, out);
+    let (mut out, mut shown) = (io::writer(out), io::writer(err));
+    let trace = io::writer(err);
+    Ok(act(
+        alloc,
+        words.as_slice(),
+        &mut files,
+        &mut out,
+        &mut shown,
+        trace,
+    ))
 }
 
 fn main(rt: HostRuntime) -> ExitCode {

@@ -13,11 +13,13 @@ use Rattle.tpm_actions.specs.declared.report.Failure.TheVariants as failures
 use Rattle.command_line.specs.Asked.{Asked, path_of}
 use Rattle.command_line.specs.CommandLine.{line_of}
 use Rattle.tpm_actions.specs.Texts.{status_of}
-use Rattle.tpm_actions.specs.Acting.{Acts, Performs, Reads, Answers, Hinders, IsRefusedWith, RefusesWith, Tells}
-use Rattle.tpm_actions.specs.Acting.{IsStopped, IsUntold, malformed, uncertified, uncompiled, not_upgraded, told}
-use Rattle.tpm_actions.specs.Acting.{refused, explained, unread, stopped}
-use Rattle.tpm_actions.specs.Acting.{unwritten, unexplained, starved_by_file}
-use Rattle.tpm_actions.specs.Acting.{starved_by_text}
+use Rattle.tpm_actions.specs.Acting.{Acts, Performs, Reads, Answers, Hinders, HoldsBeginning, IsFaulted, IsRefusedWith}
+use Rattle.tpm_actions.specs.Acting.{IsStopped, IsToldInPart, IsUntold, Tells, malformed, uncertified, uncompiled}
+use Rattle.tpm_actions.specs.Acting.{not_upgraded, told, refused, explained, faulted, unread, stopped, unwritten}
+use Rattle.tpm_actions.specs.Acting.{starved_by_file, starved_by_text, report_in_part, explanation_in_part}
+use Rattle.tpm_actions.specs.Acting.{fault_in_part}
+use Rattle.tpm_actions.specs.Streams.{shown_of}
+use Rattle.machine_state.specs.declared.fault.Fault.{Fault}
 
 module _ {F R W : Type 0} (opens : F → Text → Result R FileFault → F → Type 0)
     (creates : F → Text → Result W FileFault → F → Type 0) (closes : F → W → Bool → F → Type 0)
@@ -89,6 +91,8 @@ module _ {F R W : Type 0} (opens : F → Text → Result R FileFault → F → T
       refused asked line (read_so (λ bytes next why. (uncertified refusal why.0, why.1)) performed.0) performed.1 is
   acts_failed (failures.Explained refusal text) status is line performed =
       explained asked (string_bytes text) line (refusal, performed.0) performed.1 is
+  acts_failed (failures.Faulted fault text) status is line performed =
+      faulted asked (string_bytes text) line (fault.fault, performed.0) performed.1 is
   acts_failed (failures.Uncompiled fault) status is line performed =
       refused asked line (read_so (λ bytes next why. (uncompiled fault why.0, why.1)) performed.0) performed.1 is
   acts_failed (failures.NotUpgraded fault) status is line performed =
@@ -101,32 +105,57 @@ module _ {F R W : Type 0} (opens : F → Text → Result R FileFault → F → T
       stopped asked (failures.ReadFailed link) line performed.0 performed.1 is
   acts_failed (failures.WriteFailed link) status is line performed =
       stopped asked (failures.WriteFailed link) line performed.0 performed.1 is
-  acts_failed failures.Unwritten status is line performed = go performed.1
-    where
-      go : Answers opens creates closes left read_failed written write_failed reads asked before after
-          (Ok performed.0)
-          ⊎ RefusesWith opens creates closes left read_failed written write_failed reads asked before after performed.0
-          → Acts opens creates closes left read_failed written write_failed reads words before after out_before
-          out_after status
-      go (inl answers) = unwritten asked performed.0 line answers performed.2 is
-      go (inr refuses) = unexplained asked performed.0 line refuses performed.2 is
+  acts_failed failures.Unwritten status is line performed = unwritten asked line performed is
   acts_failed failures.Memory status is line performed = starved_at status is line performed.1 performed.0
 
-  -- the text that explains a refusal was not written to its end
+  -- a text was not written to its end
+  told_in_part : (text : Text) (failure : Failure)
+      → (HoldsBeginning out_before out_after text
+      → IsToldInPart opens creates closes left read_failed written write_failed reads asked before after out_before
+      out_after)
+      → Tells out_before out_after text (Err failure)
+      → Performs opens creates closes left read_failed written write_failed reads asked before after out_before
+      out_after (Err failure)
+  told_in_part text (failures.Malformed fault) part tells = absurd tells
+  told_in_part text (failures.Uncertified refused_for) part tells = absurd tells
+  told_in_part text (failures.Explained refused_for told_by) part tells = absurd tells
+  told_in_part text (failures.Faulted why told_by) part tells = absurd tells
+  told_in_part text (failures.Uncompiled fault) part tells = absurd tells
+  told_in_part text (failures.NotUpgraded fault) part tells = absurd tells
+  told_in_part text (failures.Unread path) part tells = absurd tells
+  told_in_part text (failures.Uncreated path) part tells = absurd tells
+  told_in_part text (failures.ReadFailed link) part tells = absurd tells
+  told_in_part text (failures.WriteFailed link) part tells = absurd tells
+  told_in_part text failures.Unwritten part tells = part tells
+  told_in_part text failures.Memory part tells = absurd tells
+
+  -- the text that explains a refusal
   pub explained_in_part : (refusal : Refusal) (text : Text) (failure : Failure)
       → Reads opens creates closes left read_failed written write_failed reads asked before
       (λ bytes next. IsRefusedWith bytes asked refusal text × (after ≡ next))
       → Tells out_before out_after text (Err failure)
       → Performs opens creates closes left read_failed written write_failed reads asked before after out_before
       out_after (Err failure)
-  explained_in_part refusal text (failures.Malformed fault) file tells = absurd tells
-  explained_in_part refusal text (failures.Uncertified refused_for) file tells = absurd tells
-  explained_in_part refusal text (failures.Explained refused_for told_by) file tells = absurd tells
-  explained_in_part refusal text (failures.Uncompiled fault) file tells = absurd tells
-  explained_in_part refusal text (failures.NotUpgraded fault) file tells = absurd tells
-  explained_in_part refusal text (failures.Unread path) file tells = absurd tells
-  explained_in_part refusal text (failures.Uncreated path) file tells = absurd tells
-  explained_in_part refusal text (failures.ReadFailed link) file tells = absurd tells
-  explained_in_part refusal text (failures.WriteFailed link) file tells = absurd tells
-  explained_in_part refusal text failures.Unwritten file tells = (text, inr (refusal, file), tells)
-  explained_in_part refusal text failures.Memory file tells = absurd tells
+  explained_in_part refusal text failure file =
+      told_in_part text failure (λ beginning. explanation_in_part text (refusal, file) beginning)
+
+  -- the text of a run that was brought to a fault
+  pub faulted_in_part : (fault : Fault) (text : Text) (failure : Failure)
+      → Reads opens creates closes left read_failed written write_failed reads asked before
+      (λ bytes next. IsFaulted opens creates closes left read_failed written write_failed bytes asked fault next after
+      text)
+      → Tells out_before out_after (shown_of asked text) (Err failure)
+      → Performs opens creates closes left read_failed written write_failed reads asked before after out_before
+      out_after (Err failure)
+  faulted_in_part fault text failure file =
+      told_in_part (shown_of asked text) failure (λ beginning. fault_in_part text (fault, file) beginning)
+
+  -- what was done to report
+  pub reported : (text : Text) (result : Result (Unit {0}) Failure)
+      → Answers opens creates closes left read_failed written write_failed reads asked before after (Ok text)
+      → Tells out_before out_after (shown_of asked text) result
+      → Performs opens creates closes left read_failed written write_failed reads asked before after out_before
+      out_after result
+  reported text (Ok u) answers tells = (text, answers, tells)
+  reported text (Err failure) answers tells =
+      told_in_part (shown_of asked text) failure (λ beginning. report_in_part text answers beginning) tells

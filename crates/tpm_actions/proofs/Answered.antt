@@ -26,6 +26,7 @@ module _ {F R W : Type 0} (opens : F → Text → Result R FileFault → F → T
   hindered (failures.Malformed fault) why = hinders (failures.Malformed fault) why
   hindered (failures.Uncertified refusal) why = hinders (failures.Uncertified refusal) why
   hindered (failures.Explained refusal text) why = hinders (failures.Explained refusal text) why
+  hindered (failures.Faulted fault text) why = hinders (failures.Faulted fault text) why
   hindered (failures.Uncompiled fault) why = hinders (failures.Uncompiled fault) why
   hindered (failures.NotUpgraded fault) why = hinders (failures.NotUpgraded fault) why
   hindered (failures.Unread path) why = inr (hinders (failures.Unread path) why)

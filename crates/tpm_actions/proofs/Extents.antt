@@ -13,10 +13,11 @@ use Rattle.module_format.specs.Contents.{Contents}
 use Rattle.module_format.specs.Reading.{and_then}
 use Rattle.module_format.specs.ReadingFile.{magic_at, header_at, read_file, read_contents}
 use Rattle.module_format.specs.Spelling.{magic_one, magic_two, file_of}
-use Rattle.tpm_actions.specs.declared.extent.Extent.TheVariants.{Source, Module}
+use Rattle.tpm_actions.specs.declared.extent.Extent.TheVariants.{Source, Module, Either}
 use Rattle.tpm_actions.specs.declared.extent.TheConstants.{MAGIC_BYTES}
 use Rattle.tpm_actions.specs.Malformed.{IsMalformed}
-use Rattle.tpm_actions.specs.Extents.{has_magic, IsEnough, is_all, is_too_large, has_no_magic}
+use Rattle.tpm_actions.specs.Extents.{begins_as_module, module_beginning, has_magic, IsEnough, is_all, is_too_large}
+use Rattle.tpm_actions.specs.Extents.{has_no_magic, is_either_module, is_either_source}
 use Rattle.tpm_actions.specs.Extents.{BeginningsDecide, too_many_bytes, no_magic}
 
 -- ---- a source
@@ -85,6 +86,18 @@ module_is_enough bytes = on (has_magic bytes) refl
         (malformed (take MAGIC_BYTES bytes) (first_tell bytes ∙ none)))
         (malformed bytes none)
 
+-- ---- a module or a source
+
+either_is_enough : (bytes : List ℕ) → IsEnough bytes Either
+either_is_enough bytes = on (begins_as_module bytes) refl
+  where
+    on : (b : Bool) → begins_as_module bytes ≡ b → IsEnough bytes Either
+    on true begins = is_either_module begins
+        (ap (λ b. if b then module_beginning bytes else take (MAX_BYTES + 1) bytes) begins) (module_is_enough bytes)
+    on false begins = is_either_source begins
+        (ap (λ b. if b then module_beginning bytes else take (MAX_BYTES + 1) bytes) begins) (source_is_enough bytes)
+
 pub beginnings_decide : BeginningsDecide
 beginnings_decide bytes Source = source_is_enough bytes
 beginnings_decide bytes Module = module_is_enough bytes
+beginnings_decide bytes Either = either_is_enough bytes

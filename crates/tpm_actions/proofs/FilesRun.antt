@@ -24,6 +24,7 @@ module _ {F R W : Type 0} (creates : F → Text → Result W FileFault → F →
     stops (failures.Malformed fault) runs = absurd runs
     stops (failures.Uncertified refusal) runs = absurd runs
     stops (failures.Explained refusal text) runs = absurd runs
+    stops (failures.Faulted fault text) runs = absurd runs
     stops (failures.Uncompiled fault) runs = absurd runs
     stops (failures.NotUpgraded fault) runs = absurd runs
     stops (failures.Unread path) runs = absurd runs

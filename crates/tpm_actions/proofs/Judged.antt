@@ -1,5 +1,5 @@
--- What is reported about a compiled source, an upgraded module, and a module of which something is asked, or why
--- nothing is.
+-- What is reported about a compiled source, an upgraded module, a run on the machine that checks each rule, and a module
+-- of which something is asked, or why nothing is.
 use Rattle.std.proofs.Common.{ℕ, Bool, List, Option, Result, Ok, Err, MatchResult, ◌⊎◌, inl, inr}
 use Rattle.command_line.specs.Words.{Text}
 use Rattle.std.specs.Prelude.{string_bytes}
@@ -9,7 +9,9 @@ use Rattle.verifier.specs.declared.Refusal.{Refusal}
 use Rattle.tpm_actions.specs.declared.files.FileFault.{FileFault}
 use Rattle.tpm_actions.specs.declared.report.Failure.{Failure}
 use Rattle.tpm_actions.specs.declared.report.Failure.TheVariants as failures
-use Rattle.command_line.specs.Asked.{compiles, upgrades, asked_about}
+use Rattle.command_line.specs.declared.links.OnLinks.{OnLinks}
+use Rattle.command_line.specs.Asked.{compiles, upgrades, debugs, asked_about}
+use Rattle.tpm_actions.specs.Programs.{TellsProgram, WithholdsProgram}
 use Rattle.command_line.specs.declared.lines.Question.{Question}
 use Rattle.command_line.specs.declared.lines.Question.TheVariants.{Verdict, Run, Listing, Explanation}
 use Rattle.tpm_actions.specs.Compiling.{HasCompiled, WithholdsModule}
@@ -28,6 +30,7 @@ module _ {F R W : Type 0} (opens : F → Text → Result R FileFault → F → T
   module_withheld bytes source out before after (failures.Malformed fault) why = absurd why.writes
   module_withheld bytes source out before after (failures.Uncertified refusal) why = absurd why.writes
   module_withheld bytes source out before after (failures.Explained refusal text) why = absurd why.writes
+  module_withheld bytes source out before after (failures.Faulted fault text) why = absurd why.writes
   module_withheld bytes source out before after (failures.Uncompiled fault) why = why
   module_withheld bytes source out before after (failures.NotUpgraded fault) why = absurd why.writes
   module_withheld bytes source out before after (failures.Unread missing) why = why
@@ -58,6 +61,7 @@ module _ {F R W : Type 0} (opens : F → Text → Result R FileFault → F → T
   upgrade_withheld bytes old new before after (failures.Malformed fault) why = why
   upgrade_withheld bytes old new before after (failures.Uncertified refusal) why = absurd why.writes
   upgrade_withheld bytes old new before after (failures.Explained refusal text) why = absurd why.writes
+  upgrade_withheld bytes old new before after (failures.Faulted fault text) why = absurd why.writes
   upgrade_withheld bytes old new before after (failures.Uncompiled fault) why = absurd why.writes
   upgrade_withheld bytes old new before after (failures.NotUpgraded fault) why = why
   upgrade_withheld bytes old new before after (failures.Unread missing) why = why
@@ -80,6 +84,46 @@ module _ {F R W : Type 0} (opens : F → Text → Result R FileFault → F → T
   upgrade_judged text_of bytes old new before after (Ok text) has = has
   upgrade_judged text_of bytes old new before after (Err failure) why =
       upgrade_withheld bytes old new before after failure why
+
+  program_withheld : (bytes : List ℕ) (path : Text) (inputs outputs : OnLinks (Option Text)) (limit : Option Text)
+      (trace : Bool) (before after : F) (failure : Failure)
+      → WithholdsProgram opens creates closes left read_failed written write_failed inputs outputs limit before after
+      bytes failure
+      → IsHindered opens creates closes left read_failed written write_failed bytes
+      (debugs path inputs outputs limit trace) before after failure
+  program_withheld bytes path inputs outputs limit trace before after (failures.Malformed fault) why = why
+  program_withheld bytes path inputs outputs limit trace before after (failures.Uncertified refusal) why =
+      absurd why.holds
+  program_withheld bytes path inputs outputs limit trace before after (failures.Explained refusal text) why =
+      absurd why.holds
+  program_withheld bytes path inputs outputs limit trace before after (failures.Faulted fault text) why = why
+  program_withheld bytes path inputs outputs limit trace before after (failures.Uncompiled fault) why = why
+  program_withheld bytes path inputs outputs limit trace before after (failures.NotUpgraded fault) why =
+      absurd why.holds
+  program_withheld bytes path inputs outputs limit trace before after (failures.Unread missing) why = why
+  program_withheld bytes path inputs outputs limit trace before after (failures.Uncreated missing) why = why
+  program_withheld bytes path inputs outputs limit trace before after (failures.ReadFailed link) why = why
+  program_withheld bytes path inputs outputs limit trace before after (failures.WriteFailed link) why = why
+  program_withheld bytes path inputs outputs limit trace before after failures.Unwritten why = absurd why.holds
+  program_withheld bytes path inputs outputs limit trace before after failures.Memory why = inl tt
+
+  -- the answer that a run of a module or a source gives on the machine that checks each rule
+  pub program_judged : {S : Type 0} (text_of : S → Text) (bytes : List ℕ) (path : Text)
+      (inputs outputs : OnLinks (Option Text)) (limit : Option Text) (trace : Bool) (before after : F)
+      (result : Result S Failure)
+      → MatchResult result
+      (λ text. TellsProgram opens creates closes left read_failed written write_failed inputs outputs limit before after
+      bytes (text_of text))
+      (WithholdsProgram opens creates closes left read_failed written write_failed inputs outputs limit before after
+      bytes)
+      → MatchResult result
+      (λ text. IsTold opens creates closes left read_failed written write_failed bytes
+      (debugs path inputs outputs limit trace) before after (text_of text))
+      (IsHindered opens creates closes left read_failed written write_failed bytes
+      (debugs path inputs outputs limit trace) before after)
+  program_judged text_of bytes path inputs outputs limit trace before after (Ok text) has = has
+  program_judged text_of bytes path inputs outputs limit trace before after (Err failure) why =
+      program_withheld bytes path inputs outputs limit trace before after failure why
 
   module _ (bytes : List ℕ) (m : Contents) (format : Format bytes m) (path : Text) (before after : F) where
     -- what is reported about the module
@@ -132,6 +176,7 @@ module _ {F R W : Type 0} (opens : F → Text → Result R FileFault → F → T
         (record { contents = m; format = format; withheld = why.0 }, why.1)
     withheld question (failures.Explained refusal text) why =
         (explained question refusal (string_bytes text) why.0, why.1)
+    withheld question (failures.Faulted fault text) why = absurd why
     withheld question (failures.Uncompiled fault) why = absurd why
     withheld question (failures.NotUpgraded fault) why = absurd why
     withheld question (failures.Unread missing) why = stopped question (failures.Unread missing) why.0 why.1

@@ -7,3 +7,6 @@ pub mod FilesClosed
 pub mod FilesRun
 pub mod Beginnings
 pub mod UnreadFiles
+pub mod ProgramsRun
+pub mod Driven
+pub mod EitherRead

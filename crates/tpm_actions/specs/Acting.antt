@@ -1,5 +1,5 @@
 -- What the program reports, and when: our own choice.
-use Rattle.std.specs.Prelude.{◌≡◌, ◌⊎◌, ⊤, ℕ, Bool, true, List, take, Option, Some, None, Result, Ok, Err}
+use Rattle.std.specs.Prelude.{◌≡◌, ◌⊎◌, ⊤, ℕ, Bool, true, false, List, take, Option, Some, None, Result, Ok, Err}
 use Rattle.std.specs.Prelude.{string_bytes}
 use Rattle.std.specs.Io.KnownBytes.{Appends}
 use Rattle.command_line.specs.declared.links.OnLinks.{OnLinks}
@@ -16,19 +16,24 @@ use Rattle.verifier.specs.Reports.{Reports, out_of_memory}
 use Rattle.verifier.specs.declared.upgrading.UpgradeFault.{UpgradeFault}
 use Rattle.tpm_actions.specs.declared.extent.Extent.{Extent}
 use Rattle.tpm_actions.specs.declared.files.FileFault.{FileFault}
-use Rattle.tpm_actions.specs.Extents.{extent_of}
+use Rattle.tpm_actions.specs.Extents.{begins_as_module, extent_of}
 use Rattle.tpm_actions.specs.declared.files.FileFault.TheVariants as file_faults
 use Rattle.tpm_actions.specs.declared.report.Report.TheVariants.{Accepted}
 use Rattle.tpm_actions.specs.declared.report.Failure.{Failure}
 use Rattle.tpm_actions.specs.declared.report.Failure.TheVariants as failures
 use Rattle.tpm_actions.specs.declared.report.TheConstants.{DONE, REFUSED, MISUSED, FAILED, STARVED}
-use Rattle.command_line.specs.Asked.{Asked, compiles, upgrades, verifies, runs, lists, explains, path_of, wants_verdict}
+use Rattle.command_line.specs.Asked.{Asked, compiles, upgrades, verifies, runs, debugs, lists, explains, path_of}
+use Rattle.command_line.specs.Asked.{wants_verdict}
 use Rattle.command_line.specs.CommandLine.{line_of}
 use Rattle.tpm_actions.specs.Compiling.{CompilesAndWrites, HasCompiled}
 use Rattle.tpm_actions.specs.Explaining.{ExplainsRefusal, IsExplained, IsRefusalExplained}
 use Rattle.tpm_actions.specs.Malformed.{IsMalformed}
 use Rattle.tpm_actions.specs.Upgrading.{HasUpgraded, IsRefusedUpgrade, UpgradesAndWrites}
 use Rattle.tpm_actions.specs.FilesOnLinks.{RunsTo}
+use Rattle.machine_state.specs.declared.fault.Fault.{Fault}
+use Rattle.tpm_actions.specs.declared.debugging.Ending.TheVariants as endings
+use Rattle.tpm_actions.specs.Programs.{EndsAs, IsProgramWith, TellsProgram, WithholdsRun}
+use Rattle.tpm_actions.specs.Streams.{shown_of}
 use Rattle.tpm_actions.specs.Texts.{report_line, run_text, status_of}
 use Rattle.listings.specs.Listing.{listing}
 
@@ -44,6 +49,7 @@ abbrev pub WithholdsVerdict : Contents → Failure → Type 0
 WithholdsVerdict m (failures.Malformed fault) = ⊥
 WithholdsVerdict m (failures.Uncertified refusal) = Reports m refusal
 WithholdsVerdict m (failures.Explained refusal text) = ⊥
+WithholdsVerdict m (failures.Faulted fault text) = ⊥
 WithholdsVerdict m (failures.Uncompiled fault) = ⊥
 WithholdsVerdict m (failures.NotUpgraded fault) = ⊥
 WithholdsVerdict m (failures.Unread path) = ⊥
@@ -89,6 +95,8 @@ IsRefusedWith bytes asked refusal text = ⊥
 -- A source is asked for that becomes no module, for this reason.
 abbrev pub IsUncompiled : List ℕ → Asked → CompileFault → Type 0
 IsUncompiled bytes (compiles source out) fault = IsRefusedFor bytes fault
+IsUncompiled bytes (debugs path inputs outputs limit trace) fault =
+    (begins_as_module bytes ≡ false) × IsRefusedFor bytes fault
 IsUncompiled bytes asked fault = ⊥
 
 -- A module in version 2 is asked for, and there is none for this reason.
@@ -141,6 +149,7 @@ module _ {F R W : Type 0} (opens : F → Text → Result R FileFault → F → T
   TellsOf m (upgrades old new) before after text = ⊥
   TellsOf m (verifies path) before after text = IsAccepted m text × (after ≡ before)
   TellsOf m (runs path inputs outputs) before after text = HasRun m inputs outputs before after text
+  TellsOf m (debugs path inputs outputs limit trace) before after text = ⊥
   TellsOf m (lists path) before after text = (text ≡ listing m) × (after ≡ before)
   TellsOf m (explains path) before after text = IsExplained m text × (after ≡ before)
 
@@ -150,6 +159,7 @@ module _ {F R W : Type 0} (opens : F → Text → Result R FileFault → F → T
   StopsIn m (upgrades old new) before after failure = ⊥
   StopsIn m (verifies path) before after failure = ⊥
   StopsIn m (runs path inputs outputs) before after failure = RunOf m inputs outputs before after (Err failure)
+  StopsIn m (debugs path inputs outputs limit trace) before after failure = ⊥
   StopsIn m (lists path) before after failure = ⊥
   StopsIn m (explains path) before after failure = ⊥
 
@@ -160,6 +170,7 @@ module _ {F R W : Type 0} (opens : F → Text → Result R FileFault → F → T
   IsDone m (verifies path) before after = after ≡ before
   IsDone m (runs path inputs outputs) before after =
       (report : RunReport) × RunOf m inputs outputs before after (Ok report)
+  IsDone m (debugs path inputs outputs limit trace) before after = ⊥
   IsDone m (lists path) before after = after ≡ before
   IsDone m (explains path) before after = after ≡ before
 
@@ -169,6 +180,7 @@ module _ {F R W : Type 0} (opens : F → Text → Result R FileFault → F → T
   WithholdsOf m asked before after (failures.Uncertified refusal) = Withholds m asked refusal × (after ≡ before)
   WithholdsOf m asked before after (failures.Explained refusal text) =
       ExplainsTo m asked refusal (string_bytes text) × (after ≡ before)
+  WithholdsOf m asked before after (failures.Faulted fault text) = ⊥
   WithholdsOf m asked before after (failures.Uncompiled fault) = ⊥
   WithholdsOf m asked before after (failures.NotUpgraded fault) = ⊥
   WithholdsOf m asked before after failures.Unwritten = ⊥
@@ -182,10 +194,19 @@ module _ {F R W : Type 0} (opens : F → Text → Result R FileFault → F → T
     pub format : Format bytes contents
     pub told : TellsOf contents asked before after text
 
+  -- A run on the machine that checks each rule was brought to this fault, and this text says how far it came.
+  abbrev pub IsFaulted : List ℕ → Asked → Fault → F → F → Text → Type 0
+  IsFaulted bytes (debugs path inputs outputs limit trace) fault before after text =
+      IsProgramWith bytes (λ m. EndsAs opens creates closes left read_failed written write_failed inputs outputs limit
+      before after m (endings.Faulted fault) text)
+  IsFaulted bytes asked fault before after text = ⊥
+
   -- what is reported about a source or a module
   abbrev pub IsTold : List ℕ → Asked → F → F → Text → Type 0
   IsTold bytes (compiles source out) before after text = HasCompiled creates closes written bytes out before after text
   IsTold bytes (upgrades old new) before after text = HasUpgraded creates closes written bytes new before after text
+  IsTold bytes (debugs path inputs outputs limit trace) before after text =
+      TellsProgram opens creates closes left read_failed written write_failed inputs outputs limit before after bytes text
   IsTold bytes asked before after text = IsToldOfModule bytes asked before after text
 
   -- The bytes are a source or a module whose new file was not written, or the file of a module, and what is asked for
@@ -195,6 +216,9 @@ module _ {F R W : Type 0} (opens : F → Text → Result R FileFault → F → T
       CompilesAndWrites creates closes written bytes out before after (Err failure)
   IsStopped bytes (upgrades old new) before after failure =
       UpgradesAndWrites creates closes written bytes new before after (Err failure)
+  IsStopped bytes (debugs path inputs outputs limit trace) before after failures.Memory = ⊤
+  IsStopped bytes (debugs path inputs outputs limit trace) before after failure = IsProgramWith bytes (λ m.
+      WithholdsRun opens creates closes left read_failed written write_failed inputs outputs limit before after m failure)
   IsStopped bytes asked before after failure = IsJudged bytes asked (λ m. StopsIn m asked before after failure)
 
   -- what is asked for was done with the bytes, but is not reported
@@ -203,6 +227,7 @@ module _ {F R W : Type 0} (opens : F → Text → Result R FileFault → F → T
       (u : ⊤) × CompilesAndWrites creates closes written bytes out before after (Ok u)
   IsUntold bytes (upgrades old new) before after =
       (u : ⊤) × UpgradesAndWrites creates closes written bytes new before after (Ok u)
+  IsUntold bytes (debugs path inputs outputs limit trace) before after = ⊥
   IsUntold bytes asked before after = IsJudged bytes asked (λ m. IsDone m asked before after)
 
   -- why nothing is reported about the source or the module in the bytes, or why the module is refused that is explained
@@ -212,6 +237,8 @@ module _ {F R W : Type 0} (opens : F → Text → Result R FileFault → F → T
       IsUncertified bytes asked refusal × (after ≡ before)
   IsHindered bytes asked before after (failures.Explained refusal text) =
       IsRefusedWith bytes asked refusal (string_bytes text) × (after ≡ before)
+  IsHindered bytes asked before after (failures.Faulted fault text) =
+      IsFaulted bytes asked fault.fault before after (string_bytes text)
   IsHindered bytes asked before after (failures.Uncompiled fault) =
       IsUncompiled bytes asked fault × (after ≡ before)
   IsHindered bytes asked before after (failures.NotUpgraded fault) =
@@ -238,6 +265,11 @@ module _ {F R W : Type 0} (opens : F → Text → Result R FileFault → F → T
     RefusesWith asked before after text =
         (refusal : Refusal) × Reads asked before (λ bytes next. IsRefusedWith bytes asked refusal text × (after ≡ next))
 
+    -- The run of what is in the file was brought to a fault, and this text says how far it came.
+    abbrev pub FaultsWith : Asked → F → F → Text → Type 0
+    FaultsWith asked before after text =
+        (fault : Fault) × Reads asked before (λ bytes next. IsFaulted bytes asked fault next after text)
+
     -- what is reported about the file that is asked for, or why nothing is
     abbrev pub Answers : Asked → F → F → Result Text Failure → Type 0
     Answers asked before after (Ok text) = Reads asked before (λ bytes next. IsTold bytes asked next after text)
@@ -250,17 +282,31 @@ module _ {F R W : Type 0} (opens : F → Text → Result R FileFault → F → T
         ⊎ Hinders asked before after failures.Memory
     Answers asked before after (Err failure) = Hinders asked before after failure
 
-    -- What the program did as asked: it wrote the report; it wrote the explanation of a refusal, and returned that; it
-    -- wrote nothing and returned why; or standard output failed.
+    -- Standard output failed, and holds a beginning of what is reported, of the explanation of a refusal, or of how far a
+    -- run came that was brought to a fault.
+    pub data IsToldInPart (asked : Asked) (before after : F) (out_before out_after : Option (List ℕ)) : Type 0 where
+      report_in_part : (text : Text) → Answers asked before after (Ok text)
+          → HoldsBeginning out_before out_after (shown_of asked text)
+          → IsToldInPart asked before after out_before out_after
+      explanation_in_part : (text : Text) → RefusesWith asked before after text
+          → HoldsBeginning out_before out_after text → IsToldInPart asked before after out_before out_after
+      fault_in_part : (text : Text) → FaultsWith asked before after text
+          → HoldsBeginning out_before out_after (shown_of asked text)
+          → IsToldInPart asked before after out_before out_after
+
+    -- What the program did as asked: it wrote the report; it wrote the explanation of a refusal, or how far a run came,
+    -- and returned that; it wrote nothing and returned why; or standard output failed.
     abbrev pub Performs : Asked → F → F → Option (List ℕ) → Option (List ℕ) → Result ⊤ Failure → Type 0
     Performs asked before after out_before out_after (Ok _) =
-        (text : Text) × Answers asked before after (Ok text) × Appends out_before out_after text
+        (text : Text) × Answers asked before after (Ok text) × Appends out_before out_after (shown_of asked text)
     Performs asked before after out_before out_after (Err (failures.Explained refusal text)) =
         Answers asked before after (Err (failures.Explained refusal text))
         × Appends out_before out_after (string_bytes text)
+    Performs asked before after out_before out_after (Err (failures.Faulted fault text)) =
+        Answers asked before after (Err (failures.Faulted fault text))
+        × Appends out_before out_after (shown_of asked (string_bytes text))
     Performs asked before after out_before out_after (Err failures.Unwritten) =
-        (text : Text) × (Answers asked before after (Ok text) ⊎ RefusesWith asked before after text)
-        × HoldsBeginning out_before out_after text
+        IsToldInPart asked before after out_before out_after
     Performs asked before after out_before out_after (Err failure) =
         Answers asked before after (Err failure) × (out_after ≡ out_before)
 
@@ -270,7 +316,7 @@ module _ {F R W : Type 0} (opens : F → Text → Result R FileFault → F → T
       -- what is asked for is reported, and nothing else
       told : (asked : Asked) (text : Text) → line_of words ≡ Some asked
           → Reads asked before (λ bytes next. IsTold bytes asked next after text)
-          → Appends out_before out_after text → status ≡ DONE → Acts words before after out_before out_after status
+          → Appends out_before out_after (shown_of asked text) → status ≡ DONE → Acts words before after out_before out_after status
       -- the reader, the verifier, the compiler or the upgrade refuses the bytes, and no file is created
       refused : (asked : Asked) → line_of words ≡ Some asked
           → Reads asked before (λ bytes next. IsRefusedBy bytes asked × (after ≡ next))
@@ -278,6 +324,10 @@ module _ {F R W : Type 0} (opens : F → Text → Result R FileFault → F → T
       -- the verifier refuses the module, which is explained, and nothing else
       explained : (asked : Asked) (text : Text) → line_of words ≡ Some asked → RefusesWith asked before after text
           → Appends out_before out_after text → status ≡ REFUSED → Acts words before after out_before out_after status
+      -- a process is at fault in the run of what is in the file, and how far it came is reported
+      faulted : (asked : Asked) (text : Text) → line_of words ≡ Some asked → FaultsWith asked before after text
+          → Appends out_before out_after (shown_of asked text) → status ≡ REFUSED
+          → Acts words before after out_before out_after status
       -- the words ask for nothing, and no file is touched
       misused : line_of words ≡ None → after ≡ before → out_after ≡ out_before → status ≡ MISUSED
           → Acts words before after out_before out_after status
@@ -290,14 +340,8 @@ module _ {F R W : Type 0} (opens : F → Text → Result R FileFault → F → T
           → Reads asked before (λ bytes next. IsStopped bytes asked next after failure)
           → out_after ≡ out_before → status ≡ status_of failure → Acts words before after out_before out_after status
       -- standard output failed, and holds a beginning of what is reported
-      unwritten : (asked : Asked) (text : Text) → line_of words ≡ Some asked
-          → Reads asked before (λ bytes next. IsTold bytes asked next after text)
-          → HoldsBeginning out_before out_after text → status ≡ FAILED
-          → Acts words before after out_before out_after status
-      -- standard output failed, and holds a beginning of the explanation of a refusal
-      unexplained : (asked : Asked) (text : Text) → line_of words ≡ Some asked → RefusesWith asked before after text
-          → HoldsBeginning out_before out_after text → status ≡ FAILED
-          → Acts words before after out_before out_after status
+      unwritten : (asked : Asked) → line_of words ≡ Some asked → IsToldInPart asked before after out_before out_after
+          → status ≡ FAILED → Acts words before after out_before out_after status
       -- memory ran out at the words, and no file is touched
       starved_by_words : after ≡ before → out_after ≡ out_before → status ≡ STARVED
           → Acts words before after out_before out_after status

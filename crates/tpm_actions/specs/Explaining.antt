@@ -39,6 +39,7 @@ abbrev pub WithholdsExplanation : Contents → Failure → Type 0
 WithholdsExplanation m (failures.Malformed fault) = ⊥
 WithholdsExplanation m (failures.Uncertified refusal) = refusal ≡ out_of_memory
 WithholdsExplanation m (failures.Explained refusal text) = ExplainsRefusal m refusal (string_bytes text)
+WithholdsExplanation m (failures.Faulted fault text) = ⊥
 WithholdsExplanation m (failures.Uncompiled fault) = ⊥
 WithholdsExplanation m (failures.NotUpgraded fault) = ⊥
 WithholdsExplanation m (failures.Unread path) = ⊥

@@ -44,6 +44,7 @@ module _ {F R W : Type 0} (creates : F → Text → Result W FileFault → F →
   CreatesAndRuns (Err (failures.Malformed fault)) = ⊥
   CreatesAndRuns (Err (failures.Uncertified refusal)) = ⊥
   CreatesAndRuns (Err (failures.Explained refusal text)) = ⊥
+  CreatesAndRuns (Err (failures.Faulted fault text)) = ⊥
   CreatesAndRuns (Err (failures.Uncompiled fault)) = ⊥
   CreatesAndRuns (Err (failures.NotUpgraded fault)) = ⊥
   CreatesAndRuns (Err (failures.Unread path)) = ⊥
@@ -85,6 +86,7 @@ module _ {F R W : Type 0} (creates : F → Text → Result W FileFault → F →
   RunsOpened (Err (failures.Malformed fault)) = ⊥
   RunsOpened (Err (failures.Uncertified refusal)) = ⊥
   RunsOpened (Err (failures.Explained refusal text)) = ⊥
+  RunsOpened (Err (failures.Faulted fault text)) = ⊥
   RunsOpened (Err (failures.Uncompiled fault)) = ⊥
   RunsOpened (Err (failures.NotUpgraded fault)) = ⊥
   RunsOpened (Err (failures.Unread path)) = ⊥
@@ -115,6 +117,7 @@ module _ {F R W : Type 0} (opens : F → Text → Result R FileFault → F → T
   RunsTo (Err (failures.Malformed fault)) = ⊥
   RunsTo (Err (failures.Uncertified refusal)) = ⊥
   RunsTo (Err (failures.Explained refusal text)) = ⊥
+  RunsTo (Err (failures.Faulted fault text)) = ⊥
   RunsTo (Err (failures.Uncompiled fault)) = ⊥
   RunsTo (Err (failures.NotUpgraded fault)) = ⊥
   RunsTo (Err (failures.Unread path)) = FailsToOpen path.now file_faults.Failed

@@ -1,6 +1,10 @@
 pub mod Texts
+pub mod RunTexts
 pub mod FilesInOrder
 pub mod FilesOnLinks
+pub mod Debugging
+pub mod Programs
+pub mod Streams
 pub mod Compiling
 pub mod Malformed
 pub mod Opened

@@ -7,11 +7,15 @@ use Rattle.tpm_actions.specs.declared.opened.FileWriter.{FileWriter}
 use Rattle.tpm_actions.specs.declared.opened.FileWriter.TheVariants as writers
 
 -- the bytes that are left to be read, where those of the file are known
-abbrev pub reader_left : {F : Type 0} → (F → Option (List ℕ)) → FileReader F → Option (List ℕ)
-reader_left remaining (readers.Regular file) = reader_remaining remaining file
-reader_left remaining (readers.Other file) = remaining file
+abbrev pub reader_left : {F I : Type 0} → (F → Option (List ℕ)) → (I → Option (List ℕ)) → FileReader F I
+    → Option (List ℕ)
+reader_left remaining given (readers.Regular file) = reader_remaining remaining file
+reader_left remaining given (readers.Other file) = remaining file
+reader_left remaining given (readers.Standard stream) = given stream
 
 -- the bytes that were written, where those in the file are known
-abbrev pub writer_held : {F : Type 0} → (F → Option (List ℕ)) → FileWriter F → Option (List ℕ)
-writer_held contents (writers.Regular file) = writer_contents contents file
-writer_held contents (writers.Other file) = contents file
+abbrev pub writer_held : {F O : Type 0} → (F → Option (List ℕ)) → (O → Option (List ℕ)) → FileWriter F O
+    → Option (List ℕ)
+writer_held contents taken (writers.Regular file) = writer_contents contents file
+writer_held contents taken (writers.Other file) = contents file
+writer_held contents taken (writers.Standard stream) = taken stream

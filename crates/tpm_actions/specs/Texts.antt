@@ -12,9 +12,9 @@ use Rattle.link_runner.specs.declared.report.Outcome.{Outcome}
 use Rattle.link_runner.specs.declared.report.Outcome.TheVariants as outcomes
 use Rattle.link_runner.specs.declared.report.Report.{Report as RunReport}
 use Rattle.tpm_actions.specs.declared.report.Report.{Report}
-use Rattle.tpm_actions.specs.declared.report.Report.TheVariants.{Compiled, Upgraded, Accepted, Ended, Idle}
+use Rattle.tpm_actions.specs.declared.report.Report.TheVariants.{Compiled, Upgraded, Accepted, Ended, Idle, Stopped}
 use Rattle.tpm_actions.specs.declared.report.Failure.{Failure}
-use Rattle.tpm_actions.specs.declared.report.Failure.TheVariants.{Malformed, Uncertified, Explained, Uncompiled}
+use Rattle.tpm_actions.specs.declared.report.Failure.TheVariants.{Malformed, Uncertified, Explained, Faulted, Uncompiled}
 use Rattle.tpm_actions.specs.declared.report.Failure.TheVariants.{NotUpgraded, Unread, Uncreated, ReadFailed}
 use Rattle.tpm_actions.specs.declared.report.Failure.TheVariants.{WriteFailed, Unwritten, Memory}
 use Rattle.tpm_actions.specs.declared.report.TheConstants.{REFUSED, MISUSED, FAILED, STARVED}
@@ -25,6 +25,7 @@ report_text (Upgraded bytes) = codes "upgraded " ++ (decimal bytes ++ codes " by
 report_text (Accepted budget) = codes "accepted, budget " ++ decimal budget
 report_text (Ended executed) = codes "ended, " ++ (decimal executed ++ codes " bytes executed")
 report_text (Idle executed) = codes "idle, " ++ (decimal executed ++ codes " bytes executed")
+report_text (Stopped executed) = codes "stopped, " ++ (decimal executed ++ codes " bytes executed")
 
 -- the text and a line feed
 abbrev pub report_line : Report → Text
@@ -68,6 +69,7 @@ abbrev pub status_of : Failure → ℕ
 status_of (Malformed fault) = REFUSED
 status_of (Uncertified refusal) = REFUSED
 status_of (Explained refusal text) = REFUSED
+status_of (Faulted fault text) = REFUSED
 status_of (Uncompiled fault) = REFUSED
 status_of (NotUpgraded fault) = REFUSED
 status_of (Unread path) = FAILED
@@ -80,4 +82,5 @@ status_of Memory = STARVED
 -- of words that ask for nothing
 abbrev pub misuse_status : LineFault → ℕ
 misuse_status (line_faults.Usage shown) = MISUSED
+misuse_status (line_faults.Misfit misfit) = MISUSED
 misuse_status line_faults.Memory = STARVED

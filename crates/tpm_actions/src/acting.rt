@@ -1,26 +1,30 @@
 //! The whole program over files and streams that it is handed.
 
-ghost use Rattle.std.specs.Prelude.{◌≡◌, ℕ, List, MatchResult, string_bytes};
+ghost use Rattle.std.specs.Prelude.{◌≡◌, ℕ, List, MatchResult, string_bytes, option_map};
 ghost use Rattle.command_line.specs.Words.{words_of};
 ghost use Rattle.command_line.specs.Links.{paths_of};
 ghost use Rattle.tpm_actions.specs.FilesInOrder.{inside};
 ghost use Rattle.command_line.specs.Asked.{asked_about, asked_of, path_of, runs};
 ghost use Rattle.tpm_actions.specs.Extents.{extent_of};
 ghost use Rattle.tpm_actions.specs.Texts.{misuse_status, status_of};
-ghost use Rattle.tpm_actions.specs.Acting.{Acts, Answers, HasRun, IsAccepted, IsTold, IsHindered, Performs, TellsOf};
-ghost use Rattle.tpm_actions.specs.Acting.{WithholdsOf, WithholdsVerdict};
+ghost use Rattle.tpm_actions.specs.Acting.{Acts, Answers, HasRun, IsAccepted, IsTold, IsHindered, Performs, Tells};
+ghost use Rattle.tpm_actions.specs.Acting.{TellsOf, WithholdsOf, WithholdsVerdict};
+ghost use Rattle.tpm_actions.specs.Streams.{has_stream, is_stream_given, sends_out, shown_of};
 
 use crate::compiling::compile_to_file;
+use crate::debugging::Debugging;
 use crate::explaining::explain;
 use crate::extent::Extent;
 use crate::files::{FileFault, Files};
+use crate::programs::debug_program;
 use crate::report::{DONE, Failure, MISUSED, Report, STARVED};
 use crate::run_report::run_report;
 use crate::running::run_with_files;
 use crate::telling::tell;
+use crate::tracing::Tracer;
 use crate::upgrading::upgrade_to_file;
 use certificate::Module;
-use command_line::{Line, LineFault, LinkPaths, Question, line};
+use command_line::{Line, LineFault, LinkPaths, Question, is_stream, line};
 use listings::listing;
 use std::alloc::Global;
 use std::io::Write;
@@ -82,12 +86,13 @@ fn reply<'a, F: Files>(
     }
 }
 
-/// The report on the source or the module in these bytes, as text.
-fn judge<'a, F: Files>(
+/// The report on the source or the module in these bytes, as text. A run that is traced is traced to the last one.
+fn judge<'a, F: Files, T: Write + Drop>(
     alloc: Global,
     bytes: &[u8],
     line: Line<'a>,
     files: &mut F,
+    trace: T,
 ) -> Result<String, Failure<'a>>
     ensures { let asked = asked_of line.entry in
         MatchResult result
@@ -101,6 +106,26 @@ fn judge<'a, F: Files>(
     match line {
         Line::Compile { out, .. } => compile_to_file(alloc, bytes, out, files),
         Line::Upgrade { out, .. } => upgrade_to_file(alloc, bytes, out, files),
+        Line::Debug {
+            inputs,
+            outputs,
+            bytes: limit,
+            trace: is_traced,
+            ..
+        } => {
+            let asked = Debugging {
+                inputs,
+                outputs,
+                bytes: limit,
+            };
+            debug_program(
+                alloc,
+                bytes,
+                asked,
+                Tracer::new(alloc, is_traced, trace),
+                files,
+            )
+        }
         Line::Ask { question, .. } => {
             let module = Module::read(alloc, bytes)?;
             reply(alloc, &module, question, files)
@@ -114,7 +139,7 @@ fn read_path<'a>(line: Line<'a>) -> &'a str
 {
     match line {
         Line::Compile { source, .. } => source,
-        Line::Upgrade { path, .. } | Line::Ask { path, .. } => path,
+        Line::Upgrade { path, .. } | Line::Debug { path, .. } | Line::Ask { path, .. } => path,
     }
 }
 
@@ -124,12 +149,18 @@ fn read_extent(line: Line) -> Extent
 {
     match line {
         Line::Compile { .. } => Extent::Source,
+        Line::Debug { .. } => Extent::Either,
         Line::Upgrade { .. } | Line::Ask { .. } => Extent::Module,
     }
 }
 
 /// The report on the source or the module in the file.
-fn answer<'a, F: Files>(alloc: Global, line: Line<'a>, files: &mut F) -> Result<String, Failure<'a>>
+fn answer<'a, F: Files, T: Write + Drop>(
+    alloc: Global,
+    line: Line<'a>,
+    files: &mut F,
+    trace: T,
+) -> Result<String, Failure<'a>>
     ensures { let answers = Answers F.opens F.creates F.closes (inside F.Reader.left) (inside F.Reader.failed)
         (inside F.Writer.written) (inside F.Writer.failed) F.reads (asked_of line.entry) files.old files.new in
         MatchResult result (λ text. answers (Ok (string_bytes text))) (λ failure. answers (Err failure)) }
@@ -137,25 +168,83 @@ fn answer<'a, F: Files>(alloc: Global, line: Line<'a>, files: &mut F) -> Result<
     let path = read_path(line);
     let extent = read_extent(line);
     match files.read(path, extent) {
-        Ok(bytes) => judge(alloc, bytes.as_slice(), line, files),
+        Ok(bytes) => judge(alloc, bytes.as_slice(), line, files, trace),
         Err(FileFault::Failed) => Err(Failure::Unread(path)),
         Err(FileFault::Memory) => Err(Failure::Memory),
     }
 }
 
-/// Does what is asked for, and reports it on `out`, where a refusal that is explained is, too.
-fn perform<'a, F: Files, O: Write>(
+/// Whether the path of a standard stream is given.
+fn is_stream_given(path: Option<&str>) -> bool
+    ensures { result ≡ is_stream_given (option_map (λ p. p.now) path.entry) }
+{
+    match path {
+        Some(path) => is_stream(path),
+        None => false,
+    }
+}
+
+/// Whether one of the paths is that of a standard stream.
+fn has_stream(paths: LinkPaths<'_>) -> bool
+    ensures { result ≡ has_stream (paths_of paths.entry) }
+{
+    is_stream_given(paths.first)
+        || is_stream_given(paths.second)
+        || is_stream_given(paths.third)
+        || is_stream_given(paths.fourth)
+}
+
+/// Whether some output link is standard output.
+fn sends_out(line: Line<'_>) -> bool
+    ensures { result ≡ sends_out (asked_of line.entry) }
+{
+    match line {
+        Line::Debug { outputs, .. }
+        | Line::Ask {
+            question: Question::Run { outputs, .. },
+            ..
+        } => has_stream(outputs),
+        Line::Compile { .. } | Line::Upgrade { .. } | Line::Ask { .. } => false,
+    }
+}
+
+/// Writes a report on `out`, or on `err` where an output link is standard output. A failure of `err` is not reported.
+fn report<'a, O: Write, E: Write>(
+    text: &str,
+    line: Line<'a>,
+    out: &mut O,
+    err: &mut E,
+) -> Result<(), Failure<'a>>
+    ensures { Tells (O.contents out.old) (O.contents out.new) (shown_of (asked_of line.entry) text.now) result }
+{
+    if sends_out(line) {
+        let _ = err.write_all(text.as_bytes());
+        tell(&[], out)
+    } else {
+        tell(text.as_bytes(), out)
+    }
+}
+
+/// Does what is asked for, and reports it on `out`, where a refusal that is explained is, too. Where an output link is
+/// standard output, the report is on `err`.
+fn perform<'a, F: Files, O: Write, E: Write, T: Write + Drop>(
     alloc: Global,
     line: Line<'a>,
     files: &mut F,
     out: &mut O,
+    err: &mut E,
+    trace: T,
 ) -> Result<(), Failure<'a>>
     ensures { Performs F.opens F.creates F.closes (inside F.Reader.left) (inside F.Reader.failed)
         (inside F.Writer.written) (inside F.Writer.failed)
         F.reads (asked_of line.entry) files.old files.new (O.contents out.old) (O.contents out.new) result }
 {
-    match answer(alloc, line, files) {
-        Ok(text) => tell(text.as_bytes(), out),
+    match answer(alloc, line, files, trace) {
+        Ok(text) => report(&text, line, out, err),
+        Err(Failure::Faulted { fault, text }) => match report(&text, line, out, err) {
+            Ok(()) => Err(Failure::Faulted { fault, text }),
+            Err(failure) => Err(failure),
+        },
         Err(Failure::Explained { refusal, text }) => match tell(text.as_bytes(), out) {
             Ok(()) => Err(Failure::Explained { refusal, text }),
             Err(failure) => Err(failure),
@@ -178,28 +267,30 @@ fn misuse<E: Write>(fault: LineFault, err: &mut E) -> u8
 {
     let _ = write!(err, "{fault}");
     match fault {
-        LineFault::Usage(_) => MISUSED,
+        LineFault::Usage(_) | LineFault::Misfit(_) => MISUSED,
         LineFault::Memory => STARVED,
     }
 }
 
 /// The program: does what these words ask for, of which the first is its name, and returns the exit
-/// status. A report goes to `out`, faults and asked-for help go to `err`.
+/// status. A report goes to `out`, faults and asked-for help go to `err`, where a report goes too if an output link is
+/// standard output. The instructions of a run that is traced go to `trace`.
 // A body that always reports that memory ran out at the words meets this clause too, since no clause can say that
 // memory is left: command lines show that each command is done.
-pub fn act<'a, F: Files, O: Write, E: Write>(
+pub fn act<'a, F: Files, O: Write, E: Write, T: Write + Drop>(
     alloc: Global,
     words: &'a [&'a str],
     files: &mut F,
     out: &mut O,
     err: &mut E,
+    trace: T,
 ) -> u8
     ensures { Acts F.opens F.creates F.closes (inside F.Reader.left) (inside F.Reader.failed)
         (inside F.Writer.written) (inside F.Writer.failed)
         F.reads (words_of words.entry.now) files.old files.new (O.contents out.old) (O.contents out.new) result }
 {
     match line(alloc, words) {
-        Ok(line) => match perform(alloc, line, files, out) {
+        Ok(line) => match perform(alloc, line, files, out, err, trace) {
             Ok(()) => DONE,
             Err(failure) => fail(failure, err),
         },

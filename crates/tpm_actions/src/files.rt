@@ -7,6 +7,7 @@ ghost use Rattle.tpm_actions.specs.declared.files.FileFault.{FileFault};
 
 use crate::extent::{Extent, read_beginning};
 use crate::opened::{FileReader, FileWriter};
+use command_line::is_stream;
 use link_runner::{Failed, LinkReader, LinkWriter, Reading, Writing};
 use std::io::{self, Write};
 use std::{fs, rt};
@@ -69,42 +70,78 @@ pub trait Files {
         ensures { closes self.old writer (is_ok result) self.new };
 }
 
-/// The files that a runtime opens, of which nothing is known. What is done with them leaves it as it was.
+/// The files that a runtime opens, of which nothing is known, and the standard streams, whose path is `-`. What is done
+/// with them leaves the runtime and standard output as they were.
 #[derive(Drop)]
-pub struct SystemFiles<'a, R>(pub &'a R);
+pub struct SystemFiles<'a, R, P> {
+    runtime: &'a R,
+    output: &'a P,
+    /// Whether every file that was opened is a regular one. If one is not, nothing that is written waits in a buffer.
+    are_regular: bool,
+}
 
-impl<R: rt::Files + AllocGlobal> Files for SystemFiles<'_, R> {
-    type Reader = Reading<FileReader<R::File>>;
+impl<'a, R, P> SystemFiles<'a, R, P> {
+    /// The files of the runtime and this standard output. No file is opened yet.
+    pub fn new(runtime: &'a R, output: &'a P) -> Self {
+        SystemFiles {
+            runtime,
+            output,
+            are_regular: true,
+        }
+    }
+}
 
-    type Writer = Writing<FileWriter<R::File>>;
+impl<'a, R: rt::Files + AllocGlobal + io::Input, P: Print> SystemFiles<'a, R, P> {
+    /// The file of this path, or standard input.
+    fn reader(&self, path: &str) -> Result<FileReader<R::File, R::Reader>, FileFault> {
+        if is_stream(path) {
+            return Ok(FileReader::Standard(self.runtime.reader()));
+        }
+        let file = fs::File::open(self.runtime, path)?;
+        FileReader::new(self.runtime.alloc(), file)
+    }
 
-    ghost reads = { λ before path extent bytes after. after ≡ before };
+    /// The file of this path, emptied, or made if there is none; or standard output, which is not emptied.
+    fn writer(&self, path: &str) -> Result<FileWriter<R::File, io::Printer<'a, P>>, FileFault> {
+        if is_stream(path) {
+            return Ok(FileWriter::Standard(io::writer(self.output)));
+        }
+        let file = fs::File::create(self.runtime, path)?;
+        FileWriter::new(self.runtime.alloc(), file, self.are_regular)
+    }
+}
 
-    ghost opens = { λ before path reader after. after ≡ before };
+impl<'a, R: rt::Files + AllocGlobal + io::Input, P: Print> Files for SystemFiles<'a, R, P> {
+    type Reader = Reading<FileReader<R::File, R::Reader>>;
 
-    ghost creates = { λ before path writer after. after ≡ before };
+    type Writer = Writing<FileWriter<R::File, io::Printer<'a, P>>>;
 
-    ghost closes = { λ before writer closed after. after ≡ before };
+    ghost reads = { λ before path extent bytes after. after.runtime ≡ before.runtime };
+
+    ghost opens = { λ before path reader after. after.runtime ≡ before.runtime };
+
+    ghost creates = { λ before path writer after. after.runtime ≡ before.runtime };
+
+    ghost closes = { λ before writer closed after. after.runtime ≡ before.runtime };
 
     fn read(&mut self, path: &str, extent: Extent) -> Result<Vec<u8>, FileFault> {
-        let file = fs::File::open(self.0, path)?;
-        Ok(read_beginning(self.0.alloc(), file, extent)?)
+        let file = fs::File::open(self.runtime, path)?;
+        Ok(read_beginning(self.runtime.alloc(), file, extent)?)
     }
 
     fn open(&mut self, path: &str) -> Result<Box<Self::Reader>, FileFault> {
-        let file = fs::File::open(self.0, path)?;
-        let reader = Reading::new(FileReader::new(self.0.alloc(), file)?);
-        Box::new(self.0.alloc(), reader).map_err(|_| FileFault::Memory)
+        let file = self.reader(path)?;
+        self.are_regular = self.are_regular && file.is_regular();
+        Box::new(self.runtime.alloc(), Reading::new(file)).map_err(|_| FileFault::Memory)
     }
 
     fn create(&mut self, path: &str) -> Result<Box<Self::Writer>, FileFault> {
-        let file = fs::File::create(self.0, path)?;
-        let writer = Writing::new(FileWriter::new(self.0.alloc(), file)?);
-        Box::new(self.0.alloc(), writer).map_err(|_| FileFault::Memory)
+        let file = self.writer(path)?;
+        Box::new(self.runtime.alloc(), Writing::new(file)).map_err(|_| FileFault::Memory)
     }
 
     fn close(&mut self, writer: Box<Self::Writer>) -> Result<(), Failed>
-        ensures { self.new ≡ self.old }
+        ensures { self.new.runtime ≡ self.old.runtime }
     {
         Box::into_inner(writer)
             .into_inner()

@@ -3,15 +3,18 @@
 
 mod acting;
 mod compiling;
+mod debugging;
 mod explaining;
 mod extent;
 mod files;
 mod laws;
 mod opened;
+mod programs;
 mod report;
 mod run_report;
 mod running;
 mod telling;
+mod tracing;
 mod upgrading;
 
 pub use acting::act;

@@ -10,10 +10,11 @@ use std::alloc::AllocError;
 use std::fmt;
 use thiserror::Error;
 use verifier::{Refusal, UpgradeFault};
+use waiting_texts::FaultText;
 
 /// All that was asked for was done.
 pub const DONE: u8 = 0;
-/// The module or the source is refused.
+/// The module or the source is refused, or a process of its run is at fault.
 pub const REFUSED: u8 = 1;
 /// The words are no command, or they ask for help.
 pub const MISUSED: u8 = 2;
@@ -35,6 +36,8 @@ pub enum Report {
     Ended { executed: u64 },
     /// No process is running, after this number of bytes.
     Idle { executed: u64 },
+    /// The run went on no further after this number of bytes, where something was left to do.
+    Stopped { executed: u64 },
 }
 
 impl fmt::Display for Report {
@@ -47,6 +50,7 @@ impl fmt::Display for Report {
             Report::Accepted { budget } => write!(f, "accepted, budget {budget}"),
             Report::Ended { executed } => write!(f, "ended, {executed} bytes executed"),
             Report::Idle { executed } => write!(f, "idle, {executed} bytes executed"),
+            Report::Stopped { executed } => write!(f, "stopped, {executed} bytes executed"),
         }
     }
 }
@@ -63,6 +67,9 @@ pub enum Failure<'a> {
     /// The module is not certified, and this text explains why.
     #[error("refused V{} at {}", .refusal.number, .refusal.offset)]
     Explained { refusal: Refusal, text: String },
+    /// A process of the run is at fault, and this text says how far the run came.
+    #[error("{fault}")]
+    Faulted { fault: FaultText, text: String },
     /// The source becomes no module.
     #[error("refused {0}")]
     Uncompiled(CompileFault),
@@ -148,6 +155,7 @@ impl Failure<'_> {
             Failure::Malformed(_)
             | Failure::Uncertified(_)
             | Failure::Explained { .. }
+            | Failure::Faulted { .. }
             | Failure::Uncompiled(_)
             | Failure::NotUpgraded(_) => REFUSED,
             Failure::Unread(_)

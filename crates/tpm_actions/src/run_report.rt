@@ -3,7 +3,9 @@
 ghost use Rattle.std.specs.Prelude.{◌≡◌, ◌++◌, Some, option_map, IfOk, string_bytes};
 ghost use Rattle.command_line.specs.Links.{names_of, paths_of};
 ghost use Rattle.tpm_actions.specs.Texts.{count_line, count_text, counts_text, ending_of, run_text};
+ghost use Rattle.tpm_actions.specs.RunTexts.{debug_text, ending_at};
 
+use crate::debugging::Ending;
 use crate::report::Report;
 use command_line::{LinkNames, LinkPaths, input_names, output_names};
 use link_runner::Outcome;
@@ -107,4 +109,34 @@ pub fn run_report(
     let read = LinkCounts::new(input_names(), inputs, &report.read);
     let written = LinkCounts::new(output_names(), outputs, &report.written);
     format!(in alloc; "{ending}\n{read}{written}")
+}
+
+/// How a run on the machine that checks each rule ended.
+fn ending_at(how: Ending, report: &link_runner::Report) -> Report
+    ensures { result ≡ ending_at how report.now }
+{
+    match how {
+        Ending::Over => ending(report),
+        Ending::Cut | Ending::Faulted(_) => Report::Stopped {
+            executed: report.executed,
+        },
+    }
+}
+
+/// The same of a run on the machine that checks each rule, and what its processes wait for.
+pub fn debug_report(
+    alloc: Global,
+    ending: Ending,
+    report: &link_runner::Report,
+    inputs: LinkPaths<'_>,
+    outputs: LinkPaths<'_>,
+    waits: &str,
+) -> Result<String, AllocError>
+    ensures { IfOk result (λ text. string_bytes text
+        ≡ debug_text ending (paths_of inputs.entry) (paths_of outputs.entry) report.now waits.now) }
+{
+    let ending = ending_at(ending, report);
+    let read = LinkCounts::new(input_names(), inputs, &report.read);
+    let sent = LinkCounts::new(output_names(), outputs, &report.written);
+    format!(in alloc; "{ending}\n{read}{sent}{waits}")
 }

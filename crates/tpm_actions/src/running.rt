@@ -65,7 +65,7 @@ fn open<'a, F: Files>(
 }
 
 /// Opens the files of these paths in order, up to the first that cannot be opened.
-fn open_all<'a, F: Files>(
+pub(crate) fn open_all<'a, F: Files>(
     files: &mut F,
     paths: LinkPaths<'a>,
     readers: &mut [Option<Box<F::Reader>>; 4],
@@ -109,7 +109,7 @@ fn create<'a, F: Files>(
 }
 
 /// Creates the files of these paths in order, up to the first that cannot be created. Those before it are there.
-fn create_all<'a, F: Files>(
+pub(crate) fn create_all<'a, F: Files>(
     files: &mut F,
     paths: LinkPaths<'a>,
     writers: &mut [Option<Box<F::Writer>>; 4],
@@ -140,7 +140,10 @@ fn close<F: Files>(files: &mut F, writers: &mut [Option<Box<F::Writer>>; 4], lin
 }
 
 /// Closes all writers in order, and returns the first link where that failed.
-fn close_all<F: Files>(files: &mut F, writers: &mut [Option<Box<F::Writer>>; 4]) -> Option<Link>
+pub(crate) fn close_all<F: Files>(
+    files: &mut F,
+    writers: &mut [Option<Box<F::Writer>>; 4],
+) -> Option<Link>
     ensures { (closed : ByLink Bool) × (ClosesAll F.closes files.old writers.old closed files.new
         × (result ≡ first_unclosed closed)) }
 {

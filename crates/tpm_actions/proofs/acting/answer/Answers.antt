@@ -19,7 +19,7 @@ returns-in-Err-Failed g c = inl (
   rw (c.in-Err-Failed.field-0-is, c.read_path-path.ensures, c.read_extent-extent.ensures) at c.in-Err-Failed.ensures,
 )
 
-pub returns-in-Err-Memory : goal.returns-in-Err-Memory
-returns-in-Err-Memory g c =
+pub returns : goal.returns
+returns g c =
     inl (rw (c.in-Err-Memory.field-0-is, c.read_path-path.ensures, c.read_extent-extent.ensures) at
     c.in-Err-Memory.ensures)

@@ -1,0 +1,116 @@
+-- What became of a run on the machine that checks each rule, from its parts.
+use Rattle.std.proofs.Common.{◌≡◌, ℕ, Bool, true, false, List, Option, Result, Ok, Err, IfOk, inl, ◌∙◌}
+use Rattle.command_line.specs.declared.links.OnLinks.{OnLinks}
+use Rattle.command_line.specs.Words.{Text}
+use Rattle.module_format.specs.Contents.{Contents}
+use Rattle.link_runs.specs.ByLink.{ByLink}
+use Rattle.link_runner.specs.declared.tally.Tally.{Tally}
+use Rattle.machine.specs.Asking.{Execution}
+use Rattle.machine.specs.Bounding.{BoundedExecution}
+use Rattle.waiting_texts.specs.Resting.{IsKnownIf, IsWorldOf}
+use Rattle.tpm_actions.specs.declared.debugging.Ending.{Ending}
+use Rattle.tpm_actions.specs.declared.debugging.Ending.TheVariants as endings
+use Rattle.tpm_actions.specs.declared.files.FileFault.{FileFault}
+use Rattle.tpm_actions.specs.declared.report.Failure.{Failure}
+use Rattle.tpm_actions.specs.declared.report.Failure.TheVariants as failures
+use Rattle.tpm_actions.specs.FilesInOrder.{in_order, GivesAll, ClosesAll}
+use Rattle.tpm_actions.specs.Debugging.{Breaks, CreatesAndDrives, DrivesOpened, Fails, IsKnown, StopsRun, is_over}
+
+module _ {F R W : Type 0} (creates : F → Text → Result W FileFault → F → Type 0) (left : R → Option (List ℕ))
+    (read_failed : R → Bool) (written : W → Option (List ℕ)) (write_failed : W → Bool) (m : Contents)
+    (outputs : OnLinks (Option Text)) (machine : BoundedExecution) (tally : Tally)
+    (closes : F → W → Bool → F → Type 0) (before ran after : F) (readers readers_after : List (Option R))
+    (writers_after : List (Option W)) (closed : ByLink Bool)
+    (closes_all : ClosesAll closes ran writers_after closed after) where
+  parts : (failure : Failure)
+      → CreatesAndDrives creates left read_failed written write_failed m outputs before ran readers readers_after
+      writers_after machine tally (Err failure)
+      → Breaks creates closes left read_failed written write_failed m outputs before after readers machine tally failure
+  parts failure drives = (
+    closed,
+    record {
+      readers_after = readers_after;
+      writers_after = writers_after;
+      ran = ran;
+      drives = drives;
+      closes_all = closes_all;
+    },
+  )
+
+  -- the run broke off, and the files were closed
+  pub breaks : (failure : Failure)
+      → CreatesAndDrives creates left read_failed written write_failed m outputs before ran readers readers_after
+      writers_after machine tally (Err failure)
+      → DrivesOpened creates closes left read_failed written write_failed m outputs before after readers machine tally
+      (Err failure)
+  breaks (failures.Malformed fault) drives = absurd drives
+  breaks (failures.Uncertified refusal) drives = absurd drives
+  breaks (failures.Explained refusal text) drives = absurd drives
+  breaks (failures.Faulted fault text) drives = absurd drives
+  breaks (failures.Uncompiled fault) drives = absurd drives
+  breaks (failures.NotUpgraded fault) drives = absurd drives
+  breaks (failures.Unread path) drives = absurd drives
+  breaks (failures.Uncreated path) drives = parts (failures.Uncreated path) drives
+  breaks (failures.ReadFailed link) drives = parts (failures.ReadFailed link) drives
+  breaks (failures.WriteFailed link) drives = inl (parts (failures.WriteFailed link) drives)
+  breaks failures.Unwritten drives = absurd drives
+  breaks failures.Memory drives = tt
+
+-- where a run is over, events led to the world of its machine
+pub known_if_over : (ending : Ending) (execution : Execution) → IsKnown ending execution
+    → IsKnownIf (is_over ending) execution.contents execution.world
+known_if_over endings.Over execution known over = known
+known_if_over endings.Cut execution known over = absurd (cc)
+known_if_over (endings.Faulted fault) execution known over = absurd (cc)
+
+module _ {F R W : Type 0} (creates : F → Text → Result W FileFault → F → Type 0) (closes : F → W → Bool → F → Type 0)
+    (left : R → Option (List ℕ)) (read_failed : R → Bool) (written : W → Option (List ℕ)) (write_failed : W → Bool)
+    (m : Contents) (outputs : OnLinks (Option Text)) (before after : F) (readers : List (Option R))
+    (machine : BoundedExecution) (tally : Tally) where
+  -- so it is in the world of a machine that was driven
+  pub driven_is_known : (ending : Ending)
+      → DrivesOpened creates closes left read_failed written write_failed m outputs before after readers machine tally
+      (Ok ending)
+      → IsKnown ending (record { contents = machine.contents; world = machine.world })
+  driven_is_known endings.Over drives =
+      let shown = drives.1.0.drives.drives.comes.is_shown in
+      record { events = shown.reached.events; world = shown.is ∙ shown.reached.world }
+  driven_is_known endings.Cut drives = tt
+  driven_is_known (endings.Faulted fault) drives = tt
+
+module _ {F R W : Type 0} (opens : F → Text → Result R FileFault → F → Type 0)
+    (creates : F → Text → Result W FileFault → F → Type 0) (closes : F → W → Bool → F → Type 0)
+    (left : R → Option (List ℕ)) (read_failed : R → Bool) (written : W → Option (List ℕ)) (write_failed : W → Bool)
+    (m : Contents) (inputs outputs : OnLinks (Option Text)) (limit : Option Text) (before opened after : F)
+    (readers : List (Option R)) (opens_all : GivesAll opens before (in_order inputs) readers opened)
+    (machine : BoundedExecution) (tally : Tally) where
+  fails : (failure : Failure)
+      → DrivesOpened creates closes left read_failed written write_failed m outputs opened after readers machine tally
+      (Err failure)
+      → Fails opens creates closes left read_failed written write_failed m inputs outputs limit before after failure
+  fails failure drives =
+      (machine, (tally, record { readers = readers; opened = opened; opens_all = opens_all; drives = drives }))
+
+  -- the run broke off with input files that were opened
+  pub opened_stops : (failure : Failure)
+      → DrivesOpened creates closes left read_failed written write_failed m outputs opened after readers machine tally
+      (Err failure)
+      → StopsRun opens creates closes left read_failed written write_failed m inputs outputs limit before after failure
+  opened_stops (failures.Malformed fault) drives = absurd drives
+  opened_stops (failures.Uncertified refusal) drives = absurd drives
+  opened_stops (failures.Explained refusal text) drives = absurd drives
+  opened_stops (failures.Faulted fault text) drives = absurd drives
+  opened_stops (failures.Uncompiled fault) drives = absurd drives
+  opened_stops (failures.NotUpgraded fault) drives = absurd drives
+  opened_stops (failures.Unread path) drives = absurd drives
+  opened_stops (failures.Uncreated path) drives = fails (failures.Uncreated path) drives
+  opened_stops (failures.ReadFailed link) drives = fails (failures.ReadFailed link) drives
+  opened_stops (failures.WriteFailed link) drives = fails (failures.WriteFailed link) drives
+  opened_stops failures.Unwritten drives = absurd drives
+  opened_stops failures.Memory drives = tt
+
+-- what holds of a text where there is one
+pub if_ok_so : {S E : Type 0} (result : Result S E) (P Q : S → Type 0) → ((s : S) → P s → Q s) → IfOk result P
+    → IfOk result Q
+if_ok_so (Ok s) P Q implies is = implies s is
+if_ok_so (Err e) P Q implies is = tt

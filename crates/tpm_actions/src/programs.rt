@@ -1,0 +1,95 @@
+//! What is in a file that is a module or a source.
+
+ghost use Rattle.std.specs.Prelude.{◌≡◌, false, option_map, MatchResult, string_bytes};
+ghost use Rattle.command_line.specs.Links.{paths_of};
+ghost use Rattle.tpm_actions.specs.Extents.{begins_as_module};
+ghost use Rattle.tpm_actions.specs.FilesInOrder.{inside};
+ghost use Rattle.tpm_actions.specs.Programs.{TellsModule, TellsProgram, WithholdsProgram, WithholdsRun};
+
+use crate::debugging::{Debugged, Debugging, Ending, debug};
+use crate::extent::begins_as_module;
+use crate::files::Files;
+use crate::report::Failure;
+use certificate::Module;
+use compiler::compile;
+use machine::Observer;
+use std::alloc::Global;
+use waiting_texts::{FaultText, entry_at};
+
+/// The report of the run of a module on the machine that checks each rule. Where a process is at fault, that is why there
+/// is none.
+fn debug_module<'a, F: Files, O: Observer>(
+    alloc: Global,
+    module: &Module<'_>,
+    asked: Debugging<'a>,
+    observer: O,
+    files: &mut F,
+) -> Result<String, Failure<'a>>
+    ensures { let ins = paths_of asked.entry.inputs in let outs = paths_of asked.entry.outputs in
+        let limit = option_map (λ text. text.now) asked.entry.bytes in
+        MatchResult result
+        (λ text. TellsModule F.opens F.creates F.closes (inside F.Reader.left) (inside F.Reader.failed)
+        (inside F.Writer.written) (inside F.Writer.failed) ins outs limit files.old files.new «module».now (string_bytes text))
+        (WithholdsRun F.opens F.creates F.closes (inside F.Reader.left) (inside F.Reader.failed)
+        (inside F.Writer.written) (inside F.Writer.failed) ins outs limit files.old files.new «module».now) }
+{
+    let Debugged { ending, text } = debug(alloc, module, asked, observer, files)?;
+    match ending {
+        Ending::Over | Ending::Cut => Ok(text),
+        Ending::Faulted(fault) => Err(Failure::Faulted {
+            fault: FaultText {
+                fault,
+                entry: entry_at(module.tables(), fault.offset as usize),
+            },
+            text,
+        }),
+    }
+}
+
+/// The same of a source, whose module is not written.
+fn debug_source<'a, F: Files, O: Observer>(
+    alloc: Global,
+    source: &[u8],
+    asked: Debugging<'a>,
+    observer: O,
+    files: &mut F,
+) -> Result<String, Failure<'a>>
+    requires { begins_as_module source.now ≡ false }
+    ensures { let ins = paths_of asked.entry.inputs in let outs = paths_of asked.entry.outputs in
+        let limit = option_map (λ text. text.now) asked.entry.bytes in
+        MatchResult result
+        (λ text. TellsProgram F.opens F.creates F.closes (inside F.Reader.left) (inside F.Reader.failed)
+        (inside F.Writer.written) (inside F.Writer.failed) ins outs limit files.old files.new source.now (string_bytes text))
+        (WithholdsProgram F.opens F.creates F.closes (inside F.Reader.left) (inside F.Reader.failed)
+        (inside F.Writer.written) (inside F.Writer.failed) ins outs limit files.old files.new source.now) }
+{
+    let file = compile(alloc, source)?;
+    // What is compiled is a module, so it is read unless memory runs out.
+    match Module::read(alloc, &file) {
+        Ok(module) => debug_module(alloc, &module, asked, observer, files),
+        Err(_) => Err(Failure::Memory),
+    }
+}
+
+/// The report of the run of a module or a source on the machine that checks each rule.
+pub fn debug_program<'a, F: Files, O: Observer>(
+    alloc: Global,
+    bytes: &[u8],
+    asked: Debugging<'a>,
+    observer: O,
+    files: &mut F,
+) -> Result<String, Failure<'a>>
+    ensures { let ins = paths_of asked.entry.inputs in let outs = paths_of asked.entry.outputs in
+        let limit = option_map (λ text. text.now) asked.entry.bytes in
+        MatchResult result
+        (λ text. TellsProgram F.opens F.creates F.closes (inside F.Reader.left) (inside F.Reader.failed)
+        (inside F.Writer.written) (inside F.Writer.failed) ins outs limit files.old files.new bytes.now (string_bytes text))
+        (WithholdsProgram F.opens F.creates F.closes (inside F.Reader.left) (inside F.Reader.failed)
+        (inside F.Writer.written) (inside F.Writer.failed) ins outs limit files.old files.new bytes.now) }
+{
+    if !begins_as_module(bytes) {
+        return debug_source(alloc, bytes, asked, observer, files);
+    }
+    let module = Module::read(alloc, bytes)?;
+    debug_module(alloc, &module, asked, observer, files)
+}

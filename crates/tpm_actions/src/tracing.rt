@@ -1,0 +1,75 @@
+//! Each instruction of a run, before it is executed.
+
+use machine::{Checked, Observer};
+use machine_state::{Task, Word};
+use std::alloc::{AllocError, Global};
+use std::fmt;
+use std::io::Write;
+use waiting_texts::entry_at;
+
+/// A register, in words.
+#[derive(Clone, Copy)]
+struct RegisterText(Word);
+
+impl fmt::Display for RegisterText {
+    fn fmt<W: fmt::Write>(&self, f: &mut fmt::Formatter<W>) -> fmt::Result {
+        match self.0 {
+            Some(number) => write!(f, "{number}"),
+            None => write!(f, "?"),
+        }
+    }
+}
+
+/// Writes each instruction before it is executed, if that is wanted.
+#[derive(Drop)]
+pub struct Tracer<T: Write + Drop> {
+    alloc: Global,
+    is_wanted: bool,
+    trace: T,
+}
+
+impl<T: Write + Drop> Tracer<T> {
+    pub fn new(alloc: Global, is_wanted: bool, trace: T) -> Self {
+        Tracer {
+            alloc,
+            is_wanted,
+            trace,
+        }
+    }
+
+    /// The line of an instruction: its offset, its process, its name and the registers.
+    fn line(&self, machine: &Checked<'_>, process: u64, task: &Task) -> Result<String, AllocError> {
+        let registers = task.registers;
+        let entry = entry_at(machine.module().tables(), registers.at as usize);
+        let at = registers.at;
+        let a = RegisterText(registers.stack.a);
+        let b = RegisterText(registers.stack.b);
+        let c = RegisterText(registers.stack.c);
+        format!(in self.alloc; "{at:06} process {process}  {entry}  A {a}  B {b}  C {c}\n")
+    }
+
+    /// Writes the instruction that is about to be executed, if one begins. That memory runs out for it, or that it is not
+    /// written, is not reported.
+    fn write(&mut self, machine: &Checked<'_>) {
+        let Some(process) = machine.runner() else {
+            return;
+        };
+        let Some(task) = machine.task(process) else {
+            return;
+        };
+        if task.registers.at != task.registers.began {
+            return;
+        }
+        if let Ok(line) = self.line(machine, process, &task) {
+            let _ = self.trace.write_all(line.as_bytes());
+        }
+    }
+}
+
+impl<T: Write + Drop> Observer for Tracer<T> {
+    fn observe(&mut self, machine: &Checked<'_>) {
+        if self.is_wanted {
+            self.write(machine);
+        }
+    }
+}
