@@ -6,6 +6,7 @@ pub mod Pushing
 pub mod PushingLaws
 pub mod OperatorLaws
 pub mod ChainLaws
+pub mod ExpressionLaws
 pub mod Housing
 pub mod Zeroing
 pub mod Declaring
