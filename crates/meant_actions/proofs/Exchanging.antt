@@ -22,8 +22,9 @@ use Rattle.line_pieces.specs.Actions.{link_code}
 use Rattle.placed_code.specs.StraightPieces as pieces
 use Rattle.placed_code.specs.StraightPieces.{Footing, LeadOn, with_pushed, word_place}
 use Rattle.placed_code.proofs.StraightPieces.{lead_both}
+use Rattle.placed_code.proofs.TablesInMemory.{tables_stay}
 use Rattle.placed_code.specs.Behaves.{IsScheduling}
-use Rattle.meant_lines.specs.Carrying.{Ground, HoldsArray, HoldsTable, item_place, IsScalarKept, IsArrayKept}
+use Rattle.meant_lines.specs.Carrying.{Ground, HoldsArray, HoldsTable, IsScalarKept, IsArrayKept}
 use Rattle.meant_lines.specs.Carrying.{IsKeptThere, AreKept, Carries}
 use Rattle.meant_lines.proofs.Words.{addresses_read_back}
 use Rattle.meant_lines.proofs.Instructions.{least_word_is_pushed, addresses_move_on}
@@ -45,13 +46,8 @@ module _ (g : Ground) (old new : Memory)
       (there.0, there.1, same (word_place w + i) (omega arith) ∙ there.2)
 
   table_same : (values : List ℤ) → HoldsTable g old values → HoldsTable g new values
-  table_same values table = record {
-    address = table.address;
-    behind = table.behind;
-    items = λ i v is.
-        words_same (item_place g values i) (let far = table.behind i v is in omega (arith, far))
-        ∙ table.items i v is;
-  }
+  table_same values table =
+      tables_stay g.footing g.words old new values (λ place far. same place (omega (arith, far))) table
 
   scalar_same : (h : Home) (held : Held) → IsScalarKept g old h held → IsScalarKept g new h held
   scalar_same (Word w) (One v) is = words_same (word_place w) (omega arith) ∙ is

@@ -21,7 +21,7 @@ use Rattle.placed_code.specs.LaidCode.{LaidCode, Lie}
 use Rattle.placed_code.specs.Points.{Point, point}
 use Rattle.placed_code.specs.Behaves.{Behaves}
 use Rattle.meant_lines.specs.Carrying.{Ground, Carries}
-use Rattle.meant_lines.specs.Pushing.{Pushes, AllStoreWithin}
+use Rattle.meant_lines.specs.Pushing.{Pushes, AllStandOn}
 
 -- The code runs on this ground, and memory carries an environment that meets the scope.
 pub record Begins (c : LaidCode) (g : Ground) (top : ℕ) (es : List Entry) (env : Environment) (h : Held)
@@ -42,7 +42,7 @@ pub record IsPushed (g : Ground) (top : ℕ) (es : List Entry) (env : Environmen
   pub is : number_of env e ≡ Some v
   pub word : FitsSigned w32 v
   pub pushes : Pushes g top es env (expression_code g.homes es t e) t (is_leaf es e) (is_small es e) v
-  pub within : AllStoreWithin g.words (expression_code g.homes es t e)
+  pub within : AllStandOn g (expression_code g.homes es t e)
 
 -- A name of the scope is that of a scalar, has this number, and is in this word.
 pub record IsScalar (g : Ground) (es : List Entry) (name : List ℕ) (type : ValueType) (n w : ℕ) : Type 0 where

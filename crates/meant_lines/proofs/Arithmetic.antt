@@ -26,10 +26,10 @@ use Rattle.placed_code.specs.StraightPieces as pieces
 use Rattle.placed_code.proofs.StraightPieces.{lead_both}
 use Rattle.meant_lines.specs.Instructions.{IsBinary, IsShift, with_a, with_result}
 use Rattle.meant_lines.specs.Carrying.{Ground, Carries}
-use Rattle.meant_lines.specs.Pushing.{Pushed, AllStoreWithin, IsCounted, OperandPushes, keeps}
+use Rattle.meant_lines.specs.Pushing.{Pushed, AllStandOn, IsCounted, OperandPushes, keeps}
 use Rattle.meant_lines.specs.OperatorLaws.{IsValue, ArithmeticPushes}
 use Rattle.meant_lines.proofs.Instructions.{operands_name_operations, constants_are_added, words_are_shifted}
-use Rattle.meant_lines.proofs.Operators.{both_push, operations_push, stores_first}
+use Rattle.meant_lines.proofs.Operators.{both_push, operations_push, first_stand}
 
 -- ---- values
 
@@ -81,7 +81,7 @@ module _ (g : Ground) (top t : ℕ) (es : List Entry) (env : Environment) (a b :
     (push_a : OperandPushes g top es env t a x) (push_b : OperandPushes g top es env t b y)
     (carries : Carries g top es env h.memory) where
   binary_pushes : (operation : ℤ) (op : Binary) → IsBinary operation op → computed op x y ≡ Some v
-      → AllStoreWithin g.words (two t a b ++ operates operation ∷ [])
+      → AllStandOn g (two t a b ++ operates operation ∷ [])
       → Pushed g (two t a b ++ operates operation ∷ []) t false (a.small && b.leaf) v h
   binary_pushes operation op is gives all =
       fewer_kept g (two t a b ++ operates operation ∷ []) t (a.small && b.leaf) (keeps a b) v h
@@ -93,11 +93,11 @@ module _ (g : Ground) (top t : ℕ) (es : List Entry) (env : Environment) (a b :
   count_read n is = omega (arith, ints, is, y_fits)
 
   shift_pushes : (operation : ℤ) (op : Shift) (n : ℕ) → IsShift operation op → y ≡ pos n → shift_result op x n ≡ v
-      → AllStoreWithin g.words (two t a b ++ operates operation ∷ [])
+      → AllStandOn g (two t a b ++ operates operation ∷ [])
       → Pushed g (two t a b ++ operates operation ∷ []) t false (a.small && b.leaf) v h
   shift_pushes operation op n is count gives all =
       let pushed = both_push g top t es env true a b x y h meets low few x_fits push_a push_b
-      (stores_first g.words (two t a b) (operates operation ∷ []) all) carries in
+      (first_stand g (two t a b) (operates operation ∷ []) all) carries in
       let k = pushed.after in
       record {
         after = with_result (shift_result op k.stack.b n) k;
@@ -110,7 +110,7 @@ module _ (g : Ground) (top t : ℕ) (es : List Entry) (env : Environment) (a b :
       }
 
   left_pushes : (n : ℤ) → y ≡ n → shifted shifted_left x n ≡ Some v
-      → AllStoreWithin g.words (two t a b ++ operates (pair_operation arithmetic.ShiftLeft) ∷ [])
+      → AllStandOn g (two t a b ++ operates (pair_operation arithmetic.ShiftLeft) ∷ [])
       → Pushed g (two t a b ++ operates (pair_operation arithmetic.ShiftLeft) ∷ []) t false (a.small && b.leaf) v h
   left_pushes (pos n) same gives all =
       shift_pushes (pair_operation arithmetic.ShiftLeft) shifts.Left n operands_name_operations.left same
@@ -118,7 +118,7 @@ module _ (g : Ground) (top t : ℕ) (es : List Entry) (env : Environment) (a b :
   left_pushes (negsuc n) same gives all = absurd (cc)
 
   right_pushes : (n : ℤ) → y ≡ n → shifted shifted_right x n ≡ Some v
-      → AllStoreWithin g.words (two t a b ++ operates (pair_operation arithmetic.ShiftRight) ∷ [])
+      → AllStandOn g (two t a b ++ operates (pair_operation arithmetic.ShiftRight) ∷ [])
       → Pushed g (two t a b ++ operates (pair_operation arithmetic.ShiftRight) ∷ []) t false (a.small && b.leaf) v h
   right_pushes (pos n) same gives all =
       shift_pushes (pair_operation arithmetic.ShiftRight) shifts.Right n operands_name_operations.right same
@@ -126,7 +126,7 @@ module _ (g : Ground) (top t : ℕ) (es : List Entry) (env : Environment) (a b :
   right_pushes (negsuc n) same gives all = absurd (cc)
 
   both_pushed : (op : ArithmeticPair) → pair_value op x y ≡ Some v
-      → AllStoreWithin g.words (two t a b ++ operates (pair_operation op) ∷ [])
+      → AllStandOn g (two t a b ++ operates (pair_operation op) ∷ [])
       → Pushed g (two t a b ++ operates (pair_operation op) ∷ []) t false (a.small && b.leaf) v h
   both_pushed arithmetic.Subtract gives all =
       binary_pushes (pair_operation arithmetic.Subtract) binary.Subtract operands_name_operations.subtract gives all
@@ -141,10 +141,10 @@ module _ (g : Ground) (top t : ℕ) (es : List Entry) (env : Environment) (a b :
 
   -- the constant is added in place of the one that is subtracted
   pub sum_pushed : (d : ℤ) → checked_sum x d ≡ Some v
-      → AllStoreWithin g.words (a.first ++ Direct fun.AddConstant d ∷ [])
+      → AllStandOn g (a.first ++ Direct fun.AddConstant d ∷ [])
       → Pushed g (a.first ++ Direct fun.AddConstant d ∷ []) t false (a.small && b.leaf) v h
   sum_pushed d gives all =
-      let first = push_a.first (stores_first g.words a.first (Direct fun.AddConstant d ∷ []) all) h carries in
+      let first = push_a.first (first_stand g a.first (Direct fun.AddConstant d ∷ []) all) h carries in
       record {
         after = with_a v first.after;
         leads = lead_both first.leads (constants_are_added g.footing d v first.after
@@ -162,7 +162,7 @@ module _ (g : Ground) (top t : ℕ) (es : List Entry) (env : Environment) (a b :
   -- both operands where nothing is added, as of a division
   by_added : (o : Option ℤ) (op : ArithmeticPair) (constant : Option ℤ) → added_for op constant ≡ o
       → IsValue constant y → pair_value op x y ≡ Some v
-      → AllStoreWithin g.words (pushed (unless_added o (pushes_of (pair.Arithmetic arithmetic.Divide) None None)) t a b
+      → AllStandOn g (pushed (unless_added o (pushes_of (pair.Arithmetic arithmetic.Divide) None None)) t a b
       ++ adds_or o (operates (pair_operation op) ∷ []))
       → Pushed g (pushed (unless_added o (pushes_of (pair.Arithmetic arithmetic.Divide) None None)) t a b
       ++ adds_or o (operates (pair_operation op) ∷ [])) t false

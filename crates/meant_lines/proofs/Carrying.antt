@@ -4,8 +4,7 @@ use Rattle.std.proofs.Common.{cond, List, [], ◌∷◌, length, Option, Some, N
 use Rattle.std.proofs.Common.{bytes_eq}
 use Rattle.std.specs.Prelude.{slice_get, option_and_then}
 use Rattle.std.proofs.lemmas.Bool.{eqb-true}
-use Rattle.machine_state.specs.Memory.{Memory, word_at}
-use Rattle.machine_state.proofs.Reading.{word_at_same}
+use Rattle.machine_state.specs.Memory.{Memory}
 use Rattle.occam_parser.specs.declared.tree.ValueType.{ValueType}
 use Rattle.occam_parser.specs.declared.tree.ValueType.TheVariants as value_type
 use Rattle.scalar_ranges.specs.Entries.{Meaning, Constant, Scalar, Array, Channel, Channels, Procedure, Entry}
@@ -21,8 +20,9 @@ use Rattle.scalar_ranges.proofs.Named.{meaning_found}
 use Rattle.line_pieces.specs.Homes as home
 use Rattle.line_pieces.specs.Homes.{Home, Nowhere, Word, Block, Link, Passed, home_of, words_for}
 use Rattle.placed_code.specs.StraightPieces.{word_place}
+use Rattle.placed_code.proofs.TablesInMemory.{tables_stay}
 use Rattle.meant_lines.specs.Words.{Holds, ChangesWithin}
-use Rattle.meant_lines.specs.Carrying.{Ground, HoldsByte, HoldsArray, HoldsTable, item_place}
+use Rattle.meant_lines.specs.Carrying.{Ground, HoldsByte, HoldsArray, HoldsTable}
 use Rattle.meant_lines.specs.Carrying.{IsScalarKept, IsArrayKept, IsKeptThere, AreKept, words_of, start_of}
 use Rattle.meant_lines.specs.Carrying.{end_of, Rise, HasFrame}
 use Rattle.meant_lines.specs.CarryingLaws.{NamesAreKept, HomesEndBefore, OuterWordsStay, IsPartOf, OneNameChanges}
@@ -52,7 +52,7 @@ names_are_kept g m (e ∷ es) (b ∷ bs) name k meets kept is =
 
 -- ---- where homes end
 
-starts_before : (h : Option Home) (k : Meaning) (top first : ℕ) → end_of h k ≤ top → top ≤ first
+pub starts_before : (h : Option Home) (k : Meaning) (top first : ℕ) → end_of h k ≤ top → top ≤ first
     → start_of h top ≤ first
 starts_before None k top first ends low = low
 starts_before (Some Nowhere) k top first ends low = low
@@ -169,23 +169,11 @@ module _ {first end : ℕ} {old new : Memory} (changes : ChangesWithin first end
       λ i v is. byte_stays (word_place w + i) v
       (byte_within w size i (let less = item_below i vs v is in omega (arith, less, long)) apart) (holds i v is)
 
-  -- what lies behind the words that change
-  behind_stays : (place : ℕ) → word_place end ≤ place → word_at new place ≡ word_at old place
-  behind_stays place behind =
-      word_at_same new old place (changes.bytes place (inr behind))
-      (changes.bytes (place + 1) (inr (omega (arith, behind))))
-      (changes.bytes (place + 2) (inr (omega (arith, behind))))
-      (changes.bytes (place + 3) (inr (omega (arith, behind))))
-
   module _ (g : Ground) (within : end ≤ g.words) where
     table_stays : (values : List ℤ) → HoldsTable g old values → HoldsTable g new values
-    table_stays values table = record {
-      address = table.address;
-      behind = table.behind;
-      items = λ i v is.
-          behind_stays (item_place g values i) (let far = table.behind i v is in omega (arith, far, within))
-          ∙ table.items i v is;
-    }
+    table_stays values table =
+        tables_stay g.footing g.words old new values
+        (λ place behind. changes.bytes place (inr (omega (arith, behind, within)))) table
 
     scalar_stays : (h : Home) (kind : ScalarKind) (type : ValueType) (range : Ends) (held : Held)
         → IsApart (Some h) (Scalar kind type range) first end → IsScalarKept g old h held → IsScalarKept g new h held

@@ -28,11 +28,11 @@ use Rattle.placed_code.specs.StraightPieces as pieces
 use Rattle.placed_code.proofs.StraightPieces.{lead_both}
 use Rattle.meant_lines.specs.Instructions.{IsBinary, with_a}
 use Rattle.meant_lines.specs.Carrying.{Ground, Carries}
-use Rattle.meant_lines.specs.Pushing.{Pushed, PushedBoth, Pushes, AllStoreWithin, IsCounted, OperandPushes, keeps}
+use Rattle.meant_lines.specs.Pushing.{Pushed, PushedBoth, Pushes, AllStandOn, IsCounted, OperandPushes, keeps}
 use Rattle.meant_lines.specs.OperatorLaws.{IsValue, joined_value, ChainsAreOperations, ChainsCompute, TruthsAreJoined}
 use Rattle.meant_lines.specs.OperatorLaws.{FirstTwoPush, OneMorePushes}
 use Rattle.meant_lines.proofs.Instructions.{operands_name_operations, constants_are_added}
-use Rattle.meant_lines.proofs.Operators.{operations_push, operation_behind, on_it, waiting, stores_first, keeps_a}
+use Rattle.meant_lines.proofs.Operators.{operations_push, operation_behind, on_it, waiting, first_stand, keeps_a}
 use Rattle.meant_lines.proofs.Operators.{both_true}
 use Rattle.meant_lines.proofs.Arithmetic.{fewer_kept, kept_of, checked_by, sum_pushed}
 
@@ -135,7 +135,7 @@ truths_are_joined logic.Or p q b is = ap Some (or_truths p q ∙ ap truth (as_so
 -- ---- the constant that is added
 
 -- a constant is added by `+` alone
-added_value : (op : ChainOperator) (constant : Option ℤ) (d x y v : ℤ) → added_by op constant ≡ Some d
+pub added_value : (op : ChainOperator) (constant : Option ℤ) (d x y v : ℤ) → added_by op constant ≡ Some d
     → IsValue constant y → joined_value op x y ≡ Some v → checked_sum x d ≡ Some v
 unfolding computed
 added_value (chain.Arithmetic arithmetic_chain.Add) (Some c) d x y v is value gives =
@@ -160,7 +160,7 @@ module _ (g : Ground) (top t : ℕ) (es : List Entry) (env : Environment) (x y v
     (carries : Carries g top es env h.memory) where
   first_by : (o : Option ℤ) (op : ChainOperator) (constant : Option ℤ) (a b : Operand) → added_by op constant ≡ o
       → OperandPushes g top es env t a x → OperandPushes g top es env t b y → IsValue constant y
-      → joined_value op x y ≡ Some v → AllStoreWithin g.words (first_two t op o a b)
+      → joined_value op x y ≡ Some v → AllStandOn g (first_two t op o a b)
       → Pushed g (first_two t op o a b) t false (a.small && b.leaf) v h
   first_by None op constant a b is push_a push_b value gives all =
       let operation = chains_compute op x y v x_fits y_fits gives in
@@ -174,7 +174,7 @@ module _ (g : Ground) (top t : ℕ) (es : List Entry) (env : Environment) (x y v
   -- the next operand is pushed on what is in A
   onto_by : (lx sx leaf small : Bool) (ps right : List Piece) → Pushes g top es env ps t lx sx x
       → Pushes g top es env right (word_after t 1) leaf small y
-      → AllStoreWithin g.words (ps ++ onto false t small right)
+      → AllStandOn g (ps ++ onto false t small right)
       → PushedBoth g (ps ++ onto false t small right) t false ((sx || lx) && leaf) x y h
   onto_by lx sx leaf true ps right first second all =
       on_it g top t es env meets low few false x y ps right lx sx leaf true h carries first second refl all
@@ -184,7 +184,7 @@ module _ (g : Ground) (top t : ℕ) (es : List Entry) (env : Environment) (x y v
   one_more_by : (o : Option ℤ) (op : ChainOperator) (constant : Option ℤ) (lx sx leaf small : Bool)
       (ps right : List Piece) → added_by op constant ≡ o → Pushes g top es env ps t lx sx x
       → Pushes g top es env right (word_after t 1) leaf small y → IsValue constant y → joined_value op x y ≡ Some v
-      → AllStoreWithin g.words (ps ++ adds_or o (onto false t small right ++ operates (chain_operation op) ∷ []))
+      → AllStandOn g (ps ++ adds_or o (onto false t small right ++ operates (chain_operation op) ∷ []))
       → Pushed g (ps ++ adds_or o (onto false t small right ++ operates (chain_operation op) ∷ [])) t false
       ((sx || lx) && leaf) v h
   one_more_by None op constant lx sx leaf small ps right is first second value gives all =
@@ -194,11 +194,11 @@ module _ (g : Ground) (top t : ℕ) (es : List Entry) (env : Environment) (x y v
       subst (λ (code : List Piece). Pushed g code t false ((sx || lx) && leaf) v h) same
       (operation_behind g (ps ++ onto false t small right) t false ((sx || lx) && leaf) (chain_operation op)
       operation.operation x y v h operation.named operation.gives (λ no. operation.turned)
-      (onto_by lx sx leaf small ps right first second (stores_first g.words (ps ++ onto false t small right) last
-      (subst (λ (code : List Piece). AllStoreWithin g.words code) (sym same) all))))
+      (onto_by lx sx leaf small ps right first second (first_stand g (ps ++ onto false t small right) last
+      (subst (λ (code : List Piece). AllStandOn g code) (sym same) all))))
   one_more_by (Some d) op constant lx sx leaf small ps right is first second value gives all =
       sum_behind lx sx leaf ps d
-      (first (stores_first g.words ps (Direct fun.AddConstant d ∷ []) all) h carries)
+      (first (first_stand g ps (Direct fun.AddConstant d ∷ []) all) h carries)
       (added_value op constant d x y v is value gives)
     where
       sum_behind : (lx sx leaf : Bool) (ps : List Piece) (d : ℤ) → Pushed g ps t lx sx x h → checked_sum x d ≡ Some v

@@ -28,11 +28,11 @@ use Rattle.placed_code.specs.StraightPieces.{LeadOn, with_pushed}
 use Rattle.placed_code.proofs.StraightPieces.{lead_both}
 use Rattle.meant_lines.specs.Instructions.{with_a, with_result}
 use Rattle.meant_lines.specs.Carrying.{Ground, Carries}
-use Rattle.meant_lines.specs.Pushing.{Pushed, AllStoreWithin, IsCounted, OperandPushes, AreOperands, keeps}
+use Rattle.meant_lines.specs.Pushing.{Pushed, AllStandOn, IsCounted, OperandPushes, AreOperands, keeps}
 use Rattle.meant_lines.specs.OperatorLaws.{IsValue, leaves_below, ComparisonsPush}
 use Rattle.meant_lines.proofs.Instructions.{operands_name_operations, constants_are_compared, constants_are_pushed}
 use Rattle.meant_lines.proofs.Instructions.{operations_are_computed, registers_are_reversed}
-use Rattle.meant_lines.proofs.Operators.{both_push, operations_push, stores_first, stores_rest, both_true}
+use Rattle.meant_lines.proofs.Operators.{both_push, operations_push, first_stand, rest_stand, both_true}
 use Rattle.meant_lines.proofs.Arithmetic.{checked_by, fewer_kept, kept_of}
 
 -- ---- values
@@ -142,13 +142,13 @@ turned_truth g ps t leaf small b h p =
 
 -- and so behind pieces that follow
 turned_behind : (g : Ground) (ps qs : List Piece) (t : ℕ) (leaf small b : Bool) (h : pieces.Held)
-    → (AllStoreWithin g.words (ps ++ qs) → Pushed g (ps ++ qs) t leaf small (truth b) h)
-    → AllStoreWithin g.words (ps ++ (qs ++ negates ∷ []))
+    → (AllStandOn g (ps ++ qs) → Pushed g (ps ++ qs) t leaf small (truth b) h)
+    → AllStandOn g (ps ++ (qs ++ negates ∷ []))
     → Pushed g (ps ++ (qs ++ negates ∷ [])) t false small (truth (not b)) h
 turned_behind g ps qs t leaf small b h pushes all =
     subst (λ (rs : List Piece). Pushed g rs t false small (truth (not b)) h) (append_assoc ps qs (negates ∷ []))
-    (turned_truth g (ps ++ qs) t leaf small b h (pushes (stores_first g.words (ps ++ qs) (negates ∷ [])
-    (subst (λ (rs : List Piece). AllStoreWithin g.words rs) (sym (append_assoc ps qs (negates ∷ []))) all))))
+    (turned_truth g (ps ++ qs) t leaf small b h (pushes (first_stand g (ps ++ qs) (negates ∷ [])
+    (subst (λ (rs : List Piece). AllStandOn g rs) (sym (append_assoc ps qs (negates ∷ []))) all))))
 
 as_truth : (g : Ground) (ps : List Piece) (t : ℕ) (small p q : Bool) (h : pieces.Held) → p ≡ q
     → Pushed g ps t false small (truth p) h → Pushed g ps t false small (truth q) h
@@ -178,7 +178,7 @@ module _ (g : Ground) (top t : ℕ) (es : List Entry) (env : Environment) (meets
   -- the first one is greater
   greater_pushed : (a b : Operand) (x y : ℤ) → FitsSigned w32 x → OperandPushes g top es env t a x
       → OperandPushes g top es env t b y
-      → AllStoreWithin g.words (both true (comes_last a.leaf b.small) t a b ++ operates GREATER ∷ [])
+      → AllStandOn g (both true (comes_last a.leaf b.small) t a b ++ operates GREATER ∷ [])
       → Pushed g (both true (comes_last a.leaf b.small) t a b ++ operates GREATER ∷ []) t false (keeps a b)
       (truth (int_lt y x)) h
   unfolding computed
@@ -189,14 +189,14 @@ module _ (g : Ground) (top t : ℕ) (es : List Entry) (env : Environment) (meets
   -- they are equal
   equal_pushed : (a b : Operand) (x y : ℤ) → FitsSigned w32 x → FitsSigned w32 y → OperandPushes g top es env t a x
       → OperandPushes g top es env t b y
-      → AllStoreWithin g.words (both false (comes_last a.leaf b.small) t a b ++ operates DIFFERENCE ∷ negates ∷ [])
+      → AllStandOn g (both false (comes_last a.leaf b.small) t a b ++ operates DIFFERENCE ∷ negates ∷ [])
       → Pushed g (both false (comes_last a.leaf b.small) t a b ++ operates DIFFERENCE ∷ negates ∷ []) t false
       (a.small && b.leaf) (truth (int_eq x y)) h
   unfolding computed
   equal_pushed a b x y x_fits y_fits push_a push_b all =
       let code : List Piece = both false (comes_last a.leaf b.small) t a b in
       let two = both_push g top t es env false a b x y h meets low few x_fits push_a push_b
-      (stores_first g.words code (operates DIFFERENCE ∷ negates ∷ []) all) carries in
+      (first_stand g code (operates DIFFERENCE ∷ negates ∷ []) all) carries in
       let k = two.after in
       let d = word_difference k.stack.b k.stack.a in
       record {
@@ -275,16 +275,16 @@ module _ (g : Ground) (top t : ℕ) (es : List Entry) (env : Environment) (meets
     (x_fits : FitsSigned w32 x) (y_fits : FitsSigned w32 y) (push_a : OperandPushes g top es env t a x)
     (push_b : OperandPushes g top es env t b y) where
   -- the left operand alone, wherever memory is as before
-  left_alone : AllStoreWithin g.words a.first → (k : pieces.Held) → k.memory ≡ h.memory
+  left_alone : AllStandOn g a.first → (k : pieces.Held) → k.memory ≡ h.memory
       → Pushed g a.first t a.leaf a.small x k
   left_alone all k same = push_a.first all k (subst (Carries g top es env) (sym same) carries)
 
-  in_order : AllStoreWithin g.words (both true (comes_last a.leaf b.small) t a b ++ operates GREATER ∷ [])
+  in_order : AllStandOn g (both true (comes_last a.leaf b.small) t a b ++ operates GREATER ∷ [])
       → Pushed g (both true (comes_last a.leaf b.small) t a b ++ operates GREATER ∷ []) t false (keeps a b)
       (truth (int_lt y x)) h
   in_order all = greater_pushed g top t es env meets low few h carries a b x y x_fits push_a push_b all
 
-  in_turn : AllStoreWithin g.words (both true (comes_last b.leaf a.small) t b a ++ operates GREATER ∷ [])
+  in_turn : AllStandOn g (both true (comes_last b.leaf a.small) t b a ++ operates GREATER ∷ [])
       → Pushed g (both true (comes_last b.leaf a.small) t b a ++ operates GREATER ∷ []) t false (a.leaf && b.leaf)
       (truth (int_lt x y)) h
   in_turn all =
@@ -292,7 +292,7 @@ module _ (g : Ground) (top t : ℕ) (es : List Entry) (env : Environment) (meets
       (keeps b a) (truth (int_lt x y)) h (exchanged_kept b.small b.leaf a.leaf)
       (greater_pushed g top t es env meets low few h carries b a y x y_fits push_b push_a all)
 
-  over : (c : ℤ) → AllStoreWithin g.words (after_constant c a.small a.first ++ operates GREATER ∷ [])
+  over : (c : ℤ) → AllStandOn g (after_constant c a.small a.first ++ operates GREATER ∷ [])
       → Pushed g (after_constant c a.small a.first ++ operates GREATER ∷ []) t false (a.leaf && b.leaf)
       (truth (int_lt x c)) h
   over c all =
@@ -302,28 +302,28 @@ module _ (g : Ground) (top t : ℕ) (es : List Entry) (env : Environment) (meets
       (left_alone (left_stores a.small a.first all)))
     where
       left_stores : (small : Bool) (ps : List Piece)
-          → AllStoreWithin g.words (after_constant c small ps ++ operates GREATER ∷ []) → AllStoreWithin g.words ps
+          → AllStandOn g (after_constant c small ps ++ operates GREATER ∷ []) → AllStandOn g ps
       left_stores true ps all =
-          stores_first g.words ps (operates GREATER ∷ [])
-          (stores_rest g.words (constant c ∷ []) (ps ++ operates GREATER ∷ []) all)
+          first_stand g ps (operates GREATER ∷ [])
+          (rest_stand g (constant c ∷ []) (ps ++ operates GREATER ∷ []) all)
       left_stores false ps all =
-          stores_first g.words ps (constant c ∷ operates REVERSE ∷ [])
-          (stores_first g.words (ps ++ constant c ∷ operates REVERSE ∷ []) (operates GREATER ∷ []) all)
+          first_stand g ps (constant c ∷ operates REVERSE ∷ [])
+          (first_stand g (ps ++ constant c ∷ operates REVERSE ∷ []) (operates GREATER ∷ []) all)
 
-  under : (c : ℤ) → AllStoreWithin g.words ((a.first ++ constant c ∷ []) ++ operates GREATER ∷ [])
+  under : (c : ℤ) → AllStandOn g ((a.first ++ constant c ∷ []) ++ operates GREATER ∷ [])
       → Pushed g ((a.first ++ constant c ∷ []) ++ operates GREATER ∷ []) t false (a.leaf && b.leaf)
       (truth (int_lt c x)) h
   under c all =
       fewer_kept g ((a.first ++ constant c ∷ []) ++ operates GREATER ∷ []) t (a.leaf && b.leaf) a.leaf
       (truth (int_lt c x)) h (first_leaf a.leaf b.leaf)
       (under_constant g top t es env meets low few h carries a.first a.leaf a.small x c
-      (left_alone (stores_first g.words a.first (constant c ∷ [])
-      (stores_first g.words (a.first ++ constant c ∷ []) (operates GREATER ∷ []) all)) h refl))
+      (left_alone (first_stand g a.first (constant c ∷ [])
+      (first_stand g (a.first ++ constant c ∷ []) (operates GREATER ∷ []) all)) h refl))
 
   -- the code of a comparison by the constants that it has
   abbrev Compares : Comparison → (first second : Option ℤ) → Type 0
   Compares op first second =
-      AllStoreWithin g.words (pushed (pushes_of (pair.Comparison op) first second) t a b
+      AllStandOn g (pushed (pushes_of (pair.Comparison op) first second) t a b
       ++ pair_code (pair.Comparison op) first second)
       → Pushed g (pushed (pushes_of (pair.Comparison op) first second) t a b
       ++ pair_code (pair.Comparison op) first second) t false (leaves_below (pair.Comparison op) a b)
@@ -347,7 +347,7 @@ module _ (g : Ground) (top t : ℕ) (es : List Entry) (env : Environment) (meets
   abbrev second_greater : List Piece
   second_greater = both true (comes_last b.leaf a.small) t b a
 
-  not_greater : AllStoreWithin g.words (first_greater ++ operates GREATER ∷ negates ∷ [])
+  not_greater : AllStandOn g (first_greater ++ operates GREATER ∷ negates ∷ [])
       → Pushed g (first_greater ++ operates GREATER ∷ negates ∷ []) t false (a.leaf && b.leaf) (truth (int_le x y)) h
   not_greater all =
       as_truth g (first_greater ++ operates GREATER ∷ negates ∷ []) t (a.leaf && b.leaf) (not (int_lt y x))
@@ -356,7 +356,7 @@ module _ (g : Ground) (top t : ℕ) (es : List Entry) (env : Environment) (meets
       (λ all. fewer_kept g (first_greater ++ operates GREATER ∷ []) t (a.leaf && b.leaf) (keeps a b)
       (truth (int_lt y x)) h (leaves_kept a.small a.leaf b.leaf) (in_order all)) all)
 
-  not_less : AllStoreWithin g.words (second_greater ++ operates GREATER ∷ negates ∷ [])
+  not_less : AllStandOn g (second_greater ++ operates GREATER ∷ negates ∷ [])
       → Pushed g (second_greater ++ operates GREATER ∷ negates ∷ []) t false (a.leaf && b.leaf) (truth (int_le y x)) h
   not_less all =
       as_truth g (second_greater ++ operates GREATER ∷ negates ∷ []) t (a.leaf && b.leaf) (not (int_lt x y))
@@ -364,7 +364,7 @@ module _ (g : Ground) (top t : ℕ) (es : List Entry) (env : Environment) (meets
       (turned_behind g second_greater (operates GREATER ∷ []) t false (a.leaf && b.leaf) (int_lt x y) h in_turn all)
 
   less_or_equal : (first second : Option ℤ) (o : Option ℤ) → next_above second ≡ o → IsValue second y
-      → AllStoreWithin g.words (pushed (on_constant (pushes_of (pair.Comparison comparison.Greater) None None) o) t a b
+      → AllStandOn g (pushed (on_constant (pushes_of (pair.Comparison comparison.Greater) None None) o) t a b
       ++ operates GREATER ∷ negated_unless o)
       → Pushed g (pushed (on_constant (pushes_of (pair.Comparison comparison.Greater) None None) o) t a b
       ++ operates GREATER ∷ negated_unless o) t false (a.leaf && b.leaf) (truth (int_le x y)) h
@@ -375,7 +375,7 @@ module _ (g : Ground) (top t : ℕ) (es : List Entry) (env : Environment) (meets
       (int_le x y) h (next_above_is x c d next ∙ ap (int_le x) value) (over d all)
 
   greater_or_equal : (first second : Option ℤ) (o : Option ℤ) → next_below second ≡ o → IsValue second y
-      → AllStoreWithin g.words (pushed (below_constant (pushes_of (pair.Comparison comparison.Less) None None) o) t a b
+      → AllStandOn g (pushed (below_constant (pushes_of (pair.Comparison comparison.Less) None None) o) t a b
       ++ operates GREATER ∷ negated_unless o)
       → Pushed g (pushed (below_constant (pushes_of (pair.Comparison comparison.Less) None None) o) t a b
       ++ operates GREATER ∷ negated_unless o) t false (a.leaf && b.leaf) (truth (int_le y x)) h
@@ -406,12 +406,12 @@ module _ (g : Ground) (top t : ℕ) (es : List Entry) (env : Environment) (meets
       (fewer_kept g (a.first ++ Direct fun.EqualsConstant c ∷ []) t (a.small && b.leaf) a.small
       (truth (int_eq x c)) h (first_leaf a.small b.leaf)
       (compared_with g a.first t a.leaf a.small x c h
-      (left_alone (stores_first g.words a.first (Direct fun.EqualsConstant c ∷ []) all) h refl)))
+      (left_alone (first_stand g a.first (Direct fun.EqualsConstant c ∷ []) all) h refl)))
   equal (Some c) None is value all =
       as_truth g (b.first ++ Direct fun.EqualsConstant c ∷ []) t (a.small && b.leaf) (int_eq y c) (int_eq x y) h
       (ap (int_eq y) is ∙ turned_equal x y)
       (second_compared c
-      (push_b.first (stores_first g.words b.first (Direct fun.EqualsConstant c ∷ []) all) h carries))
+      (push_b.first (first_stand g b.first (Direct fun.EqualsConstant c ∷ []) all) h carries))
   equal None None is value all =
       equal_pushed g top t es env meets low few h carries a b x y x_fits y_fits push_a push_b all
 

@@ -38,18 +38,14 @@ module _ (g : Ground) (hs : List Home) (m : Memory) where
   array_there (Word w) type (Many vs) is = is
   array_there (Word w) type Nothing is = absurd is
   array_there (Word w) type (One v) is = absurd is
-  array_there (home.Table values) type (Many vs) is = (
-    is.0,
-    λ reads. let table = is.1 reads in
-        record { address = table.address; behind = table.behind; items = table.items },
-  )
+  array_there (home.Table values) type (Many vs) is = (is.0, λ reads. is.1 reads)
   array_there (home.Table values) type Nothing is = absurd is
   array_there (home.Table values) type (One v) is = absurd is
   array_there (Block w head) type held is = absurd is
   array_there (Link number) type held is = absurd is
   array_there (Passed w) type held is = absurd is
 
-  kept_there : (h : Home) (k : Meaning) (held : Held) → IsKept g m h k held
+  pub kept_there : (h : Home) (k : Meaning) (held : Held) → IsKept g m h k held
       → IsKept (record g { homes = hs }) m h k held
   kept_there h (Scalar kind type range) held is = scalar_there h held is
   kept_there h (Array kind type size range) held is = array_there h type held is
@@ -58,7 +54,7 @@ module _ (g : Ground) (hs : List Home) (m : Memory) where
   kept_there h (Channels type size) held is = tt
   kept_there h (Procedure number) held is = tt
 
-  option_there : (o : Option Home) (k : Meaning) (held : Held) → IsKeptThere g m o k held
+  pub option_there : (o : Option Home) (k : Meaning) (held : Held) → IsKeptThere g m o k held
       → IsKeptThere (record g { homes = hs }) m o k held
   option_there None k held is = absurd is
   option_there (Some h) k held is = kept_there h k held is

@@ -51,7 +51,7 @@ get_last [] h (suc i) same = absurd (omega (arith, same))
 get_last (x ∷ hs) h zero same = absurd (omega (arith, same))
 get_last (x ∷ hs) h (suc i) same = get_last hs h i (omega (arith, same))
 
-long_more : (hs : List Home) (h : Home) → length (hs ++ h ∷ []) ≡ suc (length hs)
+pub long_more : (hs : List Home) (h : Home) → length (hs ++ h ∷ []) ≡ suc (length hs)
 long_more [] h = refl
 long_more (x ∷ hs) h = ap suc (long_more hs h)
 
@@ -84,11 +84,11 @@ one_more f es name k h top homes ends starts =
 
 -- ---- tops
 
-whole_words : (top count : ℕ) → word_after top count ≤ MAX_DATA_WORDS → word_after top count ≡ top + count
+pub whole_words : (top count : ℕ) → word_after top count ≤ MAX_DATA_WORDS → word_after top count ≡ top + count
 unfolding word_after counted
 whole_words top count few = omega (arith, few)
 
-after_counted : (top count : ℕ) → word_after top count ≤ GREATEST_WORD
+pub after_counted : (top count : ℕ) → word_after top count ≤ GREATEST_WORD
 unfolding word_after counted
 after_counted top count = omega arith
 
@@ -96,7 +96,7 @@ after_further : (top count : ℕ) → top ≤ GREATEST_WORD → top ≤ word_aft
 unfolding word_after counted
 after_further top count few = omega (arith, few)
 
-names_further : (count : ℕ) (names : List (List ℕ)) (f : Frame) → f.top ≤ GREATEST_WORD
+pub names_further : (count : ℕ) (names : List (List ℕ)) (f : Frame) → f.top ≤ GREATEST_WORD
     → f.top ≤ (with_names count names f).top
 names_further count [] f few = omega arith
 names_further count (name ∷ names) f few =
@@ -126,12 +126,12 @@ sized : (type : ValueType) (o : Option ℕ)
 sized type None = omega arith
 sized type (Some n) = omega arith
 
-variables_within : (es : List Entry) (type : ValueType) (size : Option Expression)
+pub variables_within : (es : List Entry) (type : ValueType) (size : Option Expression)
     → words_of (variable_meaning es type size) ≤ words_in es type size
 variables_within es type None = omega arith
 variables_within es type (Some size) = sized type (size_in es size)
 
-channels_within : (es : List Entry) (type : ValueType) (size : Option Expression)
+pub channels_within : (es : List Entry) (type : ValueType) (size : Option Expression)
     → words_of (channel_meaning es type size) ≤ channels_in es size
 channels_within es type None = omega arith
 channels_within es type (Some size) = omega arith

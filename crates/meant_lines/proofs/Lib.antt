@@ -13,3 +13,9 @@ pub mod Comparisons
 pub mod Prefixes
 pub mod Chains
 pub mod WholeChains
+pub mod PartsStand
+pub mod Checking
+pub mod Fronts
+pub mod WordsKnown
+pub mod Elements
+pub mod Expressions

@@ -2,6 +2,7 @@
 use Rattle.std.proofs.Common.{◌≡◌, ℕ, ◌+◌, ◌<◌, ◌≤◌, inl, inr, ℤ, Bool, true, false, ◌&&◌, ◌||◌, List}
 use Rattle.std.proofs.Common.{[], ◌∷◌, ◌++◌, Some, FitsSigned, refl, sym, ap, subst, ◌∙◌, arith}
 use Rattle.std.specs.Int.{w32}
+use Rattle.std.specs.List.{AllByRecursion}
 use Rattle.machine_state.specs.Memory.{Memory}
 use Rattle.machine_state.proofs.Reading.{word_at-with_word}
 use Rattle.module_format.specs.declared.stack.Stack.{Stack}
@@ -18,7 +19,7 @@ use Rattle.placed_code.proofs.StraightPieces.{lead_both}
 use Rattle.meant_lines.specs.Words.{IsInFrame, Holds, ChangesWithin, with_frame_word}
 use Rattle.meant_lines.specs.Instructions.{IsBinary, with_memory, without_a, with_result}
 use Rattle.meant_lines.specs.Carrying.{Ground, Carries}
-use Rattle.meant_lines.specs.Pushing.{Pushed, AllStoreWithin, Pushes, IsCounted, AreOperands}
+use Rattle.meant_lines.specs.Pushing.{Pushed, StandsOn, AllStandOn, Pushes, IsCounted, AreOperands}
 use Rattle.meant_lines.specs.Pushing.{PushedBoth, keeps}
 use Rattle.meant_lines.specs.OperatorLaws.{BothPush, OperationsPush}
 use Rattle.meant_lines.proofs.Words.{changes_both, changes_wider, changes_writing, other_word}
@@ -27,18 +28,24 @@ use Rattle.meant_lines.proofs.Instructions.{words_are_loaded, words_are_stored, 
 use Rattle.meant_lines.proofs.Instructions.{operations_are_computed}
 use Rattle.meant_lines.proofs.Pushing.{carries_after}
 
--- ---- stores
+-- ---- parts of code
 
-pub stores_first : (words : ℕ) (ps qs : List Piece) → AllStoreWithin words (ps ++ qs) → AllStoreWithin words ps
-stores_first words [] qs all = tt
-stores_first words (p ∷ ps) qs all = (all.0, stores_first words ps qs all.1)
+pub first_all : (P : Piece → Type 0) (ps qs : List Piece) → AllByRecursion P (ps ++ qs) → AllByRecursion P ps
+first_all P [] qs all = tt
+first_all P (p ∷ ps) qs all = (all.0, first_all P ps qs all.1)
 
-pub stores_rest : (words : ℕ) (ps qs : List Piece) → AllStoreWithin words (ps ++ qs) → AllStoreWithin words qs
-stores_rest words [] qs all = all
-stores_rest words (p ∷ ps) qs all = stores_rest words ps qs all.1
+pub rest_all : (P : Piece → Type 0) (ps qs : List Piece) → AllByRecursion P (ps ++ qs) → AllByRecursion P qs
+rest_all P [] qs all = all
+rest_all P (p ∷ ps) qs all = rest_all P ps qs all.1
+
+pub first_stand : (g : Ground) (ps qs : List Piece) → AllStandOn g (ps ++ qs) → AllStandOn g ps
+first_stand g ps qs all = first_all (StandsOn g.words g.pieces) ps qs all
+
+pub rest_stand : (g : Ground) (ps qs : List Piece) → AllStandOn g (ps ++ qs) → AllStandOn g qs
+rest_stand g ps qs all = rest_all (StandsOn g.words g.pieces) ps qs all
 
 -- a temporary that is stored is a word of the frame
-temporary_within : (words t : ℕ) → IsCounted t → counted t < words → t < words
+pub temporary_within : (words t : ℕ) → IsCounted t → counted t < words → t < words
 unfolding counted
 temporary_within words t few is = omega (arith, few, is)
 
@@ -81,12 +88,12 @@ module _ (g : Ground) (top t : ℕ) (es : List Entry) (env : Environment) (meets
     (carries : Carries g top es env h.memory) where
   -- the second operand leaves what is in A below its value
   pub on_it : Pushes g top es env xs t lx sx x → Pushes g top es env ys (word_after t 1) ly sy y → sy ≡ true
-      → AllStoreWithin g.words (xs ++ ys) → PushedBoth g (xs ++ ys) t in_order ((sx || lx) && ly) x y h
+      → AllStandOn g (xs ++ ys) → PushedBoth g (xs ++ ys) t in_order ((sx || lx) && ly) x y h
   on_it push_x push_y small stores =
-      let first = push_x (stores_first g.words xs ys stores) h carries in
+      let first = push_x (first_stand g xs ys stores) h carries in
       let k = first.after in
       let kept = carries_after g top t es env xs lx sx x h meets low first carries in
-      let second = push_y (stores_rest g.words xs ys stores) k kept in
+      let second = push_y (rest_stand g xs ys stores) k kept in
       record {
         after = second.after;
         leads = lead_both first.leads second.leads;
@@ -99,14 +106,14 @@ module _ (g : Ground) (top t : ℕ) (es : List Entry) (env : Environment) (meets
 
   -- the first operand is one push, after the second one
   on_other : Pushes g top es env xs t lx sx x → Pushes g top es env ys t ly sy y → lx ≡ true
-      → AllStoreWithin g.words (ys ++ (xs ++ exchanged in_order))
+      → AllStandOn g (ys ++ (xs ++ exchanged in_order))
       → PushedBoth g (ys ++ (xs ++ exchanged in_order)) t in_order ((sx || lx) && ly) x y h
   on_other push_x push_y leaf stores =
-      let second = push_y (stores_first g.words ys (xs ++ exchanged in_order) stores) h carries in
+      let second = push_y (first_stand g ys (xs ++ exchanged in_order) stores) h carries in
       let k = second.after in
       let kept = carries_after g top t es env ys ly sy y h meets low second carries in
-      let rest = stores_rest g.words ys (xs ++ exchanged in_order) stores in
-      let first = push_x (stores_first g.words xs (exchanged in_order) rest) k kept in
+      let rest = rest_stand g ys (xs ++ exchanged in_order) stores in
+      let first = push_x (first_stand g xs (exchanged in_order) rest) k kept in
       let alone = first.alone leaf in
       let last = exchange_leads g in_order x y first.after first.a
       (ap (λ (k : pieces.Held). k.stack.b) alone ∙ second.a) in
@@ -151,7 +158,7 @@ module _ (g : Ground) (top t : ℕ) (es : List Entry) (env : Environment) (meets
       }
 
   behind_stored : (k : pieces.Held) → Carries g top es env k.memory → FitsSigned w32 x → k.stack.a ≡ x
-      → t < g.words → Pushes g top es env ys (word_after t 1) ly sy y → AllStoreWithin g.words (ys ++ back in_order t)
+      → t < g.words → Pushes g top es env ys (word_after t 1) ly sy y → AllStandOn g (ys ++ back in_order t)
       → Waited k
   behind_stored k kept fits is within push_y all =
       let inside : IsInFrame t = omega (arith, within, kept.frame.few) in
@@ -163,15 +170,15 @@ module _ (g : Ground) (top t : ℕ) (es : List Entry) (env : Environment) (meets
       subst (λ (v : ℤ). Holds (with_frame_word t v k.memory) t x) (sym is)
       (word_at-with_word k.memory (word_place t) x (omega (arith, within, kept.frame.inside)) fits) in
       came_back k stored (words_are_stored g.footing t k kept.frame.workspace inside) writes refl there
-      kept.frame.workspace inside (push_y (stores_first g.words ys (back in_order t) all) stored still)
+      kept.frame.workspace inside (push_y (first_stand g ys (back in_order t) all) stored still)
 
   -- the first operand waits in a temporary
   pub waiting : FitsSigned w32 x → Pushes g top es env xs t lx sx x → Pushes g top es env ys (word_after t 1) ly sy y
-      → AllStoreWithin g.words (xs ++ (stores t ∷ (ys ++ back in_order t)))
+      → AllStandOn g (xs ++ (stores t ∷ (ys ++ back in_order t)))
       → PushedBoth g (xs ++ (stores t ∷ (ys ++ back in_order t))) t in_order ((sx || lx) && ly) x y h
   waiting fits push_x push_y all =
-      let first = push_x (stores_first g.words xs (stores t ∷ (ys ++ back in_order t)) all) h carries in
-      let rest = stores_rest g.words xs (stores t ∷ (ys ++ back in_order t)) all in
+      let first = push_x (first_stand g xs (stores t ∷ (ys ++ back in_order t)) all) h carries in
+      let rest = rest_stand g xs (stores t ∷ (ys ++ back in_order t)) all in
       let kept = carries_after g top t es env xs lx sx x h meets low first carries in
       let second = behind_stored first.after kept fits first.a (temporary_within g.words t few rest.0) push_y rest.1 in
       record {
@@ -190,7 +197,7 @@ both_by : (lx sy : Bool) (g : Ground) (top t : ℕ) (es : List Entry) (env : Env
     (xs xs2 ys ys2 : List Piece) (sx ly : Bool) (x y : ℤ) (h : pieces.Held) → Meets env es → top ≤ t → IsCounted t
     → FitsSigned w32 x → Pushes g top es env xs t lx sx x → Pushes g top es env ys t ly sy y
     → Pushes g top es env ys2 (word_after t 1) ly sy y
-    → AllStoreWithin g.words (both in_order (comes_last lx sy) t
+    → AllStandOn g (both in_order (comes_last lx sy) t
     (record { first = xs; second = xs2; leaf = lx; small = sx })
     (record { first = ys; second = ys2; leaf = ly; small = sy }))
     → Carries g top es env h.memory
@@ -244,4 +251,4 @@ operations_push g top t es env in_order a b operation op x y v h meets low few f
     let code : List Piece = both in_order (comes_last a.leaf b.small) t a b in
     operation_behind g code t in_order (keeps a b) operation op x y v h is gives either
     (both_push g top t es env in_order a b x y h meets low few fits push_a push_b
-    (stores_first g.words code (operates operation ∷ []) all) carries)
+    (first_stand g code (operates operation ∷ []) all) carries)

@@ -78,7 +78,7 @@ rest_same e d es ds same =
 as_many : (es ds : List Entry) → shape es ≡ shape ds → length es ≡ length ds
 as_many es ds same = sym (shape_long es) ∙ ap length same ∙ shape_long ds
 
-same_kept : (g : Ground) (m : Memory) (es ds : List Entry) (env : Environment) → shape es ≡ shape ds
+pub same_kept : (g : Ground) (m : Memory) (es ds : List Entry) (env : Environment) → shape es ≡ shape ds
     → AreKept g m es env → AreKept g m ds env
 same_kept g m [] [] env same kept = kept
 same_kept g m [] (d ∷ ds) env same kept = absurd (cc)

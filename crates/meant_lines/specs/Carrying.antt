@@ -1,8 +1,8 @@
 -- What memory holds of the names of a scope: the words of scalars, the elements of arrays, the items of tables.
-use Rattle.std.specs.Prelude.{◌≡◌, ℕ, ◌+◌, ◌^◌, ◌<◌, ◌≤◌, ℤ, pos, List, [], ◌∷◌, length, Option, Some, None}
+use Rattle.std.specs.Prelude.{◌≡◌, ℕ, ◌+◌, ◌≤◌, ℤ, pos, List, [], ◌∷◌, length, Option, Some, None}
 use Rattle.std.specs.Prelude.{slice_get, unwrap_or}
 use Rattle.module_format.specs.declared.limits.TheConstants.{MAX_DATA_WORDS}
-use Rattle.machine_state.specs.Memory.{Memory, place_of, local_address, byte_at, word_at}
+use Rattle.machine_state.specs.Memory.{Memory, byte_at}
 use Rattle.occam_parser.specs.declared.tree.ValueType.{ValueType}
 use Rattle.occam_parser.specs.declared.tree.ValueType.TheVariants as value_type
 use Rattle.scalar_ranges.specs.Entries.{Meaning, Scalar, Array, Channel, Channels, Entry}
@@ -11,7 +11,7 @@ use Rattle.code_pieces.specs.Pieces.{Piece}
 use Rattle.line_pieces.specs.Homes as home
 use Rattle.line_pieces.specs.Homes.{Home, Word, Block, words_for}
 use Rattle.line_pieces.specs.Declarations.{Frame}
-use Rattle.placed_code.specs.TablesInMemory.{ReadsTable}
+use Rattle.placed_code.specs.TablesInMemory.{HasTable, ReadsTable}
 use Rattle.placed_code.specs.StraightPieces.{Footing, word_place}
 use Rattle.meant_lines.specs.Words.{IsInFrame, Holds}
 
@@ -38,15 +38,9 @@ HoldsElement value_type.Byte m word i v = HoldsByte m (word_place word + i) v
 abbrev pub HoldsArray : ValueType → Memory → (word : ℕ) → List ℤ → Type 0
 HoldsArray type m word vs = (i : ℕ) (v : ℤ) → item_at i vs ≡ Some v → HoldsElement type m word i v
 
--- where an item of a table is in memory
-abbrev pub item_place : Ground → List ℤ → ℕ → ℕ
-item_place g values i = place_of (local_address (g.footing.tables values) (pos i))
-
 -- The items of a table lie behind the words of the frame.
-pub record HoldsTable (g : Ground) (m : Memory) (values : List ℤ) : Type 0 where
-  pub address : g.footing.tables values < 2 ^ 32
-  pub behind : (i : ℕ) (v : ℤ) → item_at i values ≡ Some v → word_place g.words ≤ item_place g values i
-  pub items : (i : ℕ) (v : ℤ) → item_at i values ≡ Some v → word_at m (item_place g values i) ≡ Some v
+abbrev pub HoldsTable : Ground → Memory → List ℤ → Type 0
+HoldsTable g m values = HasTable g.footing g.words m values
 
 -- a scalar is in its word, and the index of a loop beside the turns that are left
 abbrev pub IsScalarKept : Ground → Memory → Home → Held → Type 0

@@ -26,14 +26,14 @@ use Rattle.line_pieces.specs.Expressions.{Operand, both, comes_last, pushed, pus
 use Rattle.line_pieces.specs.Expressions.{is_left_first, prefix_code, first_two, joined, added_by, chain_operation}
 use Rattle.meant_lines.specs.Instructions.{IsBinary}
 use Rattle.meant_lines.specs.Carrying.{Ground, Carries}
-use Rattle.meant_lines.specs.Pushing.{AllStoreWithin, IsCounted, OperandPushes, Pushed, Pushes, PushedBoth}
+use Rattle.meant_lines.specs.Pushing.{AllStandOn, IsCounted, OperandPushes, Pushed, Pushes, PushedBoth}
 use Rattle.meant_lines.specs.Pushing.{keeps}
 
 -- two operands, in order or in any order
 abbrev pub BothPush : Type 0
 BothPush = (g : Ground) (top t : ℕ) (es : List Entry) (env : Environment) (in_order : Bool) (a b : Operand) (x y : ℤ)
     (h : pieces.Held) → Meets env es → top ≤ t → IsCounted t → FitsSigned w32 x → OperandPushes g top es env t a x
-    → OperandPushes g top es env t b y → AllStoreWithin g.words (both in_order (comes_last a.leaf b.small) t a b)
+    → OperandPushes g top es env t b y → AllStandOn g (both in_order (comes_last a.leaf b.small) t a b)
     → Carries g top es env h.memory
     → PushedBoth g (both in_order (comes_last a.leaf b.small) t a b) t in_order (keeps a b) x y h
 
@@ -43,7 +43,7 @@ OperationsPush = (g : Ground) (top t : ℕ) (es : List Entry) (env : Environment
     (operation : ℤ) (op : Binary) (x y v : ℤ) (h : pieces.Held) → Meets env es → top ≤ t → IsCounted t
     → FitsSigned w32 x → OperandPushes g top es env t a x → OperandPushes g top es env t b y → IsBinary operation op
     → computed op x y ≡ Some v → (in_order ≡ false → computed op y x ≡ Some v)
-    → AllStoreWithin g.words (both in_order (comes_last a.leaf b.small) t a b ++ operates operation ∷ [])
+    → AllStandOn g (both in_order (comes_last a.leaf b.small) t a b ++ operates operation ∷ [])
     → Carries g top es env h.memory
     → Pushed g (both in_order (comes_last a.leaf b.small) t a b ++ operates operation ∷ []) t false (keeps a b) v h
 
@@ -58,7 +58,7 @@ ArithmeticPushes = (g : Ground) (top t : ℕ) (es : List Entry) (env : Environme
     (known constant : Option ℤ) (x y v : ℤ) (h : pieces.Held) → Meets env es → top ≤ t → IsCounted t
     → FitsSigned w32 x → FitsSigned w32 y → OperandPushes g top es env t a x → OperandPushes g top es env t b y
     → IsValue constant y → pair_value op x y ≡ Some v
-    → AllStoreWithin g.words (pushed (pushes_of (pair.Arithmetic op) known constant) t a b
+    → AllStandOn g (pushed (pushes_of (pair.Arithmetic op) known constant) t a b
     ++ pair_code (pair.Arithmetic op) known constant)
     → Carries g top es env h.memory
     → Pushed g (pushed (pushes_of (pair.Arithmetic op) known constant) t a b
@@ -74,7 +74,7 @@ ComparisonsPush = (g : Ground) (top t : ℕ) (es : List Entry) (env : Environmen
     (first second : Option ℤ) (x y : ℤ) (h : pieces.Held) → Meets env es → top ≤ t → IsCounted t
     → FitsSigned w32 x → FitsSigned w32 y → OperandPushes g top es env t a x → OperandPushes g top es env t b y
     → IsValue first x → IsValue second y
-    → AllStoreWithin g.words (pushed (pushes_of (pair.Comparison op) first second) t a b
+    → AllStandOn g (pushed (pushes_of (pair.Comparison op) first second) t a b
     ++ pair_code (pair.Comparison op) first second)
     → Carries g top es env h.memory
     → Pushed g (pushed (pushes_of (pair.Comparison op) first second) t a b
@@ -120,7 +120,7 @@ abbrev pub FirstTwoPush : Type 0
 FirstTwoPush = (g : Ground) (top t : ℕ) (es : List Entry) (env : Environment) (op : ChainOperator) (a b : Operand)
     (constant : Option ℤ) (x y v : ℤ) (h : pieces.Held) → Meets env es → top ≤ t → IsCounted t → FitsSigned w32 x
     → FitsSigned w32 y → OperandPushes g top es env t a x → OperandPushes g top es env t b y → IsValue constant y
-    → joined_value op x y ≡ Some v → AllStoreWithin g.words (first_two t op (added_by op constant) a b)
+    → joined_value op x y ≡ Some v → AllStandOn g (first_two t op (added_by op constant) a b)
     → Carries g top es env h.memory
     → Pushed g (first_two t op (added_by op constant) a b) t false (a.small && b.leaf) v h
 
@@ -132,5 +132,5 @@ OneMorePushes = (g : Ground) (top t : ℕ) (es : List Entry) (env : Environment)
     → Pushes g top es env ps t before_leaf before_small x
     → Pushes g top es env right (word_after t 1) leaf small y
     → IsValue constant y → joined_value op x y ≡ Some v
-    → AllStoreWithin g.words (ps ++ joined t op constant small right) → Carries g top es env h.memory
+    → AllStandOn g (ps ++ joined t op constant small right) → Carries g top es env h.memory
     → Pushed g (ps ++ joined t op constant small right) t false ((before_small || before_leaf) && leaf) v h

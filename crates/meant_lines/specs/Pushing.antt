@@ -1,5 +1,5 @@
 -- What it is that the code of an expression pushes a value.
-use Rattle.std.specs.Prelude.{◌≡◌, ⊤, ℕ, ◌<◌, ◌≤◌, ◌⊎◌, ℤ, pos, Bool, true, false, ◌&&◌, ◌||◌, List}
+use Rattle.std.specs.Prelude.{◌≡◌, ⊤, ℕ, ◌<◌, ◌≤◌, ◌⊎◌, ℤ, pos, Bool, true, false, ◌&&◌, ◌||◌, List, ◌++◌}
 use Rattle.std.specs.List.{AllByRecursion}
 use Rattle.prefix_decoder.specs.declared.function.Fun.TheVariants as fun
 use Rattle.machine_state.specs.Memory.{Memory}
@@ -7,9 +7,10 @@ use Rattle.module_format.specs.declared.stack.Stack.{Stack}
 use Rattle.scalar_ranges.specs.Entries.{Entry}
 use Rattle.scalar_ranges.specs.Environments.{Environment}
 use Rattle.code_pieces.specs.declared.words.TheConstants.{GREATEST_WORD}
-use Rattle.code_pieces.specs.Pieces.{Piece, Direct, word_after}
+use Rattle.code_pieces.specs.Pieces.{Piece, Direct, TableAddress, word_after}
 use Rattle.line_pieces.specs.Expressions.{Operand}
 use Rattle.placed_code.specs.StraightPieces.{Held, LeadOn, with_pushed}
+use Rattle.placed_code.specs.TablesInMemory.{ReadsTable}
 use Rattle.meant_lines.specs.Words.{ChangesWithin}
 use Rattle.meant_lines.specs.Carrying.{Ground, Carries}
 
@@ -35,11 +36,25 @@ StoresWithin words p = ⊤
 abbrev pub AllStoreWithin : ℕ → List Piece → Type 0
 AllStoreWithin words ps = AllByRecursion (StoresWithin words) ps
 
+-- A piece of this whole code: what it stores is in the frame, and the table whose address it makes is read.
+abbrev pub StandsOn : ℕ → List Piece → Piece → Type 0
+StandsOn words whole (Direct fun.StoreLocal (pos word)) = word < words
+StandsOn words whole (TableAddress values) = ReadsTable whole values
+StandsOn words whole p = ⊤
+
+abbrev pub AllStandOn : Ground → List Piece → Type 0
+AllStandOn g ps = AllByRecursion (StandsOn g.words g.pieces) ps
+
+-- So are all parts of the code, if it stores within the frame.
+abbrev pub PartsStand : Type 0
+PartsStand = (g : Ground) (before ps rest : List Piece) → AllStoreWithin g.words g.pieces
+    → g.pieces ≡ before ++ (ps ++ rest) → AllStandOn g ps
+
 -- where memory carries the environment of a scope
 abbrev pub Pushes : Ground → (top : ℕ) → List Entry → Environment → List Piece → (t : ℕ) → (leaf small : Bool) → ℤ
     → Type 0
 Pushes g top es env ps t leaf small v =
-    AllStoreWithin g.words ps → PushesValue g (Carries g top es env) ps t leaf small v
+    AllStandOn g ps → PushesValue g (Carries g top es env) ps t leaf small v
 
 -- The first word that is free is counted.
 abbrev pub IsCounted : ℕ → Type 0

@@ -16,10 +16,13 @@ ghost use Rattle.meant_lines.specs.CarryingLaws.{SameShapesCarry};
 ghost use Rattle.meant_lines.specs.CarryingLaws.{ScalarsAreCarried, ElementsAreCarried, BytesAreCarried};
 ghost use Rattle.meant_lines.specs.PushingLaws.{ConstantsPush, ScalarsPush, KnownWordsPush, WordsPush};
 ghost use Rattle.meant_lines.specs.PushingLaws.{KnownBytesPush, BytesPush, KnownItemsPush, ItemsPush};
+ghost use Rattle.meant_lines.specs.PushingLaws.{KnownItemBytesPush, ItemBytesPush};
 ghost use Rattle.meant_lines.specs.OperatorLaws.{BothPush, OperationsPush, ArithmeticPushes, ComparisonsPush};
 ghost use Rattle.meant_lines.specs.OperatorLaws.{PrefixesPush, ChainsCompute, TruthsAreJoined, FirstTwoPush};
 ghost use Rattle.meant_lines.specs.OperatorLaws.{OneMorePushes};
 ghost use Rattle.meant_lines.specs.ChainLaws.{TermsPush};
+ghost use Rattle.meant_lines.specs.ExpressionLaws.{NumbersArePushed, ConditionsArePushed, SubscriptsArePushed};
+ghost use Rattle.meant_lines.specs.Pushing.{PartsStand};
 ghost use Rattle.meant_lines.specs.Housing.{DeclaredHomesRise, BlocksRise, MoreWordsRise};
 ghost use Rattle.meant_lines.specs.Zeroing.{ScalarsAreZeroed, ArraysAreZeroed};
 ghost use Rattle.meant_lines.specs.Declaring.{NewNamesAreCarried, ZeroScalarsAreKept, ZeroArraysAreKept};
@@ -114,6 +117,8 @@ pub fn leaves_and_elements_are_pushed()
     ensures bytes { BytesPush }
     ensures known_items { KnownItemsPush }
     ensures items { ItemsPush }
+    ensures known_item_bytes { KnownItemBytesPush }
+    ensures item_bytes { ItemBytesPush }
 {}
 
 /// The code of two operands pushes both, where the code of each pushes its value, and with an operation behind it their
@@ -151,6 +156,20 @@ pub fn chains_are_pushed()
 /// first operands, where those are together a constant.
 pub fn whole_chains_are_pushed()
     ensures terms { TermsPush }
+{}
+
+/// Where memory carries the environment of a scope, and what is known of its names is true, the code of an expression
+/// that breaks no rule pushes its number, which is a word, and that of a condition pushes 1 or 0. The code of a subscript
+/// that ends with a constant pushes before it what the constant is added to.
+pub fn expressions_are_pushed()
+    ensures numbers { NumbersArePushed }
+    ensures conditions { ConditionsArePushed }
+    ensures subscripts { SubscriptsArePushed }
+{}
+
+/// Where code stores words of the frame alone, so do its parts, and the tables that they read are tables of the code.
+pub fn parts_of_code_stand()
+    ensures parts { PartsStand }
 {}
 
 /// The homes of a scope rise and do not overlap: with those of the names that a declaration declares, with the block of
