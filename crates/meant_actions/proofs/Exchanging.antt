@@ -104,6 +104,7 @@ module _ (g : Ground) (old new : Memory)
     kept = all_same es env carries.kept;
     rise = carries.rise;
     room = carries.room;
+    tables = λ values reads fit. table_same values (carries.tables values reads fit);
   }
 
 -- in the root these words lie before the frame

@@ -291,6 +291,7 @@ outer_words_stay g top first end es env old new meets low high changes carries =
   kept = all_stay changes g high es env top low meets carries.rise carries.kept;
   rise = carries.rise;
   room = carries.room;
+  tables = λ values reads fit. table_stays changes g high values (carries.tables values reads fit);
 }
 
 pub one_name_changes : OneNameChanges
@@ -303,6 +304,7 @@ one_name_changes g top first end n es env k held old new meets is part changes t
       kept = put_kept changes g high n k held part there es env top is meets carries.rise carries.kept;
       rise = carries.rise;
       room = carries.room;
+      tables = λ values reads fit. table_stays changes g high values (carries.tables values reads fit);
     }
 
 pub ruleset carrying = (names_are_kept, homes_end_before, outer_words_stay, one_name_changes)

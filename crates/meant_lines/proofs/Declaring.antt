@@ -86,6 +86,7 @@ new_names_are_carried g top more es env name k held h old new meets long ends st
       );
       rise = homes.rise;
       room = room;
+      tables = λ values reads fit. stays.tables values reads fit;
     }
 
 -- ---- what is 0

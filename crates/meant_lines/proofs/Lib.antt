@@ -19,3 +19,5 @@ pub mod Fronts
 pub mod WordsKnown
 pub mod Elements
 pub mod Expressions
+pub mod Leaving
+pub mod Opening

@@ -112,4 +112,5 @@ same_shapes_carry g top es ds env m same carries = record {
   kept = same_kept g m es ds env same carries.kept;
   rise = same_rise g.homes es ds top same carries.rise;
   room = carries.room;
+  tables = carries.tables;
 }

@@ -1,6 +1,8 @@
 -- What memory holds of the names of a scope: the words of scalars, the elements of arrays, the items of tables.
 use Rattle.std.specs.Prelude.{◌≡◌, ℕ, ◌+◌, ◌≤◌, ℤ, pos, List, [], ◌∷◌, length, Option, Some, None}
-use Rattle.std.specs.Prelude.{slice_get, unwrap_or}
+use Rattle.std.specs.Prelude.{slice_get, unwrap_or, FitsSigned}
+use Rattle.std.specs.Int.{w32}
+use Rattle.std.specs.List.{AllByRecursion}
 use Rattle.module_format.specs.declared.limits.TheConstants.{MAX_DATA_WORDS}
 use Rattle.machine_state.specs.Memory.{Memory, byte_at}
 use Rattle.occam_parser.specs.declared.tree.ValueType.{ValueType}
@@ -41,6 +43,11 @@ HoldsArray type m word vs = (i : ℕ) (v : ℤ) → item_at i vs ≡ Some v → 
 -- The items of a table lie behind the words of the frame.
 abbrev pub HoldsTable : Ground → Memory → List ℤ → Type 0
 HoldsTable g m values = HasTable g.footing g.words m values
+
+-- Memory has each table that code reads, if its values are words.
+abbrev pub HasTables : Ground → Memory → Type 0
+HasTables g m =
+    (values : List ℤ) → ReadsTable g.pieces values → AllByRecursion (FitsSigned w32) values → HoldsTable g m values
 
 -- a scalar is in its word, and the index of a loop beside the turns that are left
 abbrev pub IsScalarKept : Ground → Memory → Home → Held → Type 0
@@ -114,8 +121,10 @@ pub record HasFrame (g : Ground) (m : Memory) : Type 0 where
   pub inside : word_place g.words ≤ length m
 
 -- Memory carries an environment: what each name holds is in its home, and the homes are apart and end before this word.
+-- The tables of names that come later are there too.
 pub record Carries (g : Ground) (top : ℕ) (es : List Entry) (env : Environment) (m : Memory) : Type 0 where
   pub frame : HasFrame g m
   pub kept : AreKept g m es env
   pub rise : Rise g.homes es top
   pub room : top ≤ g.words
+  pub tables : HasTables g m

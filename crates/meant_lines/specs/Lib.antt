@@ -10,3 +10,4 @@ pub mod ExpressionLaws
 pub mod Housing
 pub mod Zeroing
 pub mod Declaring
+pub mod Opening
