@@ -129,7 +129,7 @@ compared_with g ps t leaf small v e h p =
     (replaced g ps (Direct fun.EqualsConstant e ∷ []) t leaf small v (truth (int_eq p.after.stack.a e)) h p
     (constants_are_compared g.footing e p.after))
 
-not_truth : (b : Bool) → truth (int_eq (truth b) (pos 0)) ≡ truth (not b)
+pub not_truth : (b : Bool) → truth (int_eq (truth b) (pos 0)) ≡ truth (not b)
 not_truth true = refl
 not_truth false = refl
 

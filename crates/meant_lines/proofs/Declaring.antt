@@ -19,6 +19,21 @@ use Rattle.meant_lines.proofs.Housing.{get_before, get_last, one_more}
 
 -- ---- other homes
 
+-- the arrays that are kept do not hang on other homes and turns
+module _ (g : Ground) (hs : List Home) (turns : ℕ → ℤ) (m : Memory) where
+  pub array_there : (h : Home) (type : ValueType) (held : Held) → IsArrayKept g m h type held
+      → IsArrayKept (record g { homes = hs; turns = turns }) m h type held
+  array_there Nowhere type held is = absurd is
+  array_there (Word w) type (Many vs) is = is
+  array_there (Word w) type Nothing is = absurd is
+  array_there (Word w) type (One v) is = absurd is
+  array_there (home.Table values) type (Many vs) is = (is.0, λ reads. is.1 reads)
+  array_there (home.Table values) type Nothing is = absurd is
+  array_there (home.Table values) type (One v) is = absurd is
+  array_there (Block w head) type held is = absurd is
+  array_there (Link number) type held is = absurd is
+  array_there (Passed w) type held is = absurd is
+
 module _ (g : Ground) (hs : List Home) (m : Memory) where
   scalar_there : (h : Home) (held : Held) → IsScalarKept g m h held → IsScalarKept (record g { homes = hs }) m h held
   scalar_there Nowhere held is = absurd is
@@ -32,23 +47,10 @@ module _ (g : Ground) (hs : List Home) (m : Memory) where
   scalar_there (home.Table values) held is = absurd is
   scalar_there (Passed w) held is = absurd is
 
-  array_there : (h : Home) (type : ValueType) (held : Held) → IsArrayKept g m h type held
-      → IsArrayKept (record g { homes = hs }) m h type held
-  array_there Nowhere type held is = absurd is
-  array_there (Word w) type (Many vs) is = is
-  array_there (Word w) type Nothing is = absurd is
-  array_there (Word w) type (One v) is = absurd is
-  array_there (home.Table values) type (Many vs) is = (is.0, λ reads. is.1 reads)
-  array_there (home.Table values) type Nothing is = absurd is
-  array_there (home.Table values) type (One v) is = absurd is
-  array_there (Block w head) type held is = absurd is
-  array_there (Link number) type held is = absurd is
-  array_there (Passed w) type held is = absurd is
-
   pub kept_there : (h : Home) (k : Meaning) (held : Held) → IsKept g m h k held
       → IsKept (record g { homes = hs }) m h k held
   kept_there h (Scalar kind type range) held is = scalar_there h held is
-  kept_there h (Array kind type size range) held is = array_there h type held is
+  kept_there h (Array kind type size range) held is = array_there g hs g.turns m h type held is
   kept_there h (Constant type value) held is = tt
   kept_there h (Channel type) held is = tt
   kept_there h (Channels type size) held is = tt

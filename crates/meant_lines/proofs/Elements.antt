@@ -31,8 +31,6 @@ use Rattle.scalar_ranges.proofs.Operators.{bound_lies}
 use Rattle.scalar_ranges.proofs.Parts.{both_are, ok_same}
 use Rattle.program_meaning.specs.GoingWell.{IsTrueIn}
 use Rattle.program_meaning.specs.TypedValues.{IsNumberOf}
-use Rattle.program_meaning.proofs.TypesStay.{types_stay}
-use Rattle.program_meaning.proofs.ValuesTyped.{values_are_typed}
 use Rattle.code_pieces.specs.declared.operations.TheConstants.{LOAD_BYTE, WORD_SUBSCRIPT}
 use Rattle.code_pieces.specs.Pieces.{Piece, TableAddress, operates}
 use Rattle.line_pieces.specs.Homes as home
@@ -53,7 +51,7 @@ use Rattle.meant_lines.proofs.Chains.{added_value}
 use Rattle.meant_lines.proofs.Checking.{bound_in, two_parts, element_part}
 use Rattle.meant_lines.proofs.Operators.{first_stand, rest_stand}
 use Rattle.meant_lines.proofs.Pushing as pushing
-use Rattle.meant_lines.proofs.WordsKnown.{words_are_known, some_word}
+use Rattle.meant_lines.proofs.WordsKnown.{words_are_known, number_typed, some_word}
 
 -- ---- subscripts
 
@@ -312,8 +310,7 @@ module _ (g : Ground) (top t : ℕ) (es : List Entry) (env : Environment) (holds
   element_pushes name u checked value =
       let part = element_part es name e u checked in
       let number : number_of env (Alone (Element name e)) ≡ Some v = value in
-      let typed = values_are_typed es env (Alone (Element name e)) u
-      (λ name m is. types_stay.finding es env name m holds.meets holds.typed is) checked.literals checked.type_is in
+      let typed = number_typed es env (Alone (Element name e)) u holds checked in
       meaning_by name (meaning_in name es) (held_in name env) u refl refl part.1
       (ap (option_and_then (element_of (held_in name env))) (sym is) ∙ value)
       (λ byte. typed_byte (number_of env (Alone (Element name e))) u v number byte typed)

@@ -4,8 +4,9 @@ use Rattle.std.proofs.Common.{◌++◌, Option, Some, None, Ok}
 use Rattle.std.proofs.Common.{refl, sym, ap, subst, ◌∙◌, arith}
 use Rattle.std.specs.Prelude.{unwrap_or, option_and_then}
 use Rattle.std.proofs.lemmas.Bool.{leb-true}
+use Rattle.std.proofs.lemmas.List.{append-nil}
 use Rattle.std.proofs.lemmas.Option.{same_Some}
-use Rattle.word_arithmetic.specs.Word.{least_word, greatest_word}
+use Rattle.word_arithmetic.specs.Word.{least_word, greatest_word, checked_sum}
 use Rattle.word_arithmetic.specs.Word as word
 use Rattle.occam_parser.specs.declared.tree.PrefixOperator.{PrefixOperator}
 use Rattle.occam_parser.specs.declared.tree.PrefixOperator.TheVariants as prefix
@@ -21,6 +22,7 @@ use Rattle.scalar_ranges.specs.Entries.{Meaning, Constant, Scalar, Entry}
 use Rattle.scalar_ranges.specs.Entries.{meaning_in}
 use Rattle.scalar_ranges.specs.Environments.{Held, Nothing, One, Many, Environment, held_in, one_of, element_of, item_of}
 use Rattle.scalar_ranges.specs.Fronts.{Front, count_of, front_in}
+use Rattle.scalar_ranges.specs.Narrowing.{Tested, test_of}
 use Rattle.scalar_ranges.specs.Types.{prefix_type, named_type}
 use Rattle.scalar_ranges.specs.Values.{number_of, number_of_term, truth_of, truth_of_term, pair_value}
 use Rattle.scalar_ranges.proofs.Lookups.{found_held}
@@ -28,6 +30,7 @@ use Rattle.scalar_ranges.proofs.Parts.{both_are}
 use Rattle.program_meaning.specs.GoingWell.{IsTrueIn}
 use Rattle.code_pieces.specs.Pieces.{Piece, constant, counted, word_after}
 use Rattle.line_pieces.specs.Homes.{home_of}
+use Rattle.line_pieces.specs.Actions.{forgets, may_show}
 use Rattle.line_pieces.specs.Expressions.{constant_or, is_known, is_pushed, is_byte_reference, scalar_code, prefix_code}
 use Rattle.line_pieces.specs.Expressions.{is_leaf, is_leaf_term, is_small, is_small_term, are_small, expression_code}
 use Rattle.line_pieces.specs.Expressions.{term_code, terms_code, first_code, first_of_terms, covered, beside, pushed}
@@ -39,14 +42,15 @@ use Rattle.meant_lines.specs.OperatorLaws.{IsValue, prefixed_value}
 use Rattle.meant_lines.specs.ChainLaws.{word_of_term, TermHolds, TermsHold, IsFrontHere}
 use Rattle.meant_lines.specs.ChainLaws.{FrontHolds}
 use Rattle.meant_lines.specs.ExpressionLaws.{IsChecked, NumbersArePushed, ConditionsArePushed}
-use Rattle.meant_lines.specs.ExpressionLaws.{SubscriptsArePushed, IsReady, SubscriptPushes}
+use Rattle.meant_lines.specs.ExpressionLaws.{SubscriptsArePushed, TestsArePushed, IsReady, SubscriptPushes}
 use Rattle.meant_lines.proofs.Arithmetic.{arithmetic_pushes}
 use Rattle.meant_lines.proofs.Checking.{prefixed_part, paired_parts, two_parts, then_parts, converted_part}
 use Rattle.meant_lines.proofs.Checking.{bracketed_part, element_part}
-use Rattle.meant_lines.proofs.Comparisons.{comparisons_push}
+use Rattle.meant_lines.proofs.Comparisons.{comparisons_push, replaced}
 use Rattle.meant_lines.proofs.Elements.{word_of_first, word_of_first_term, element_pushes, subscript_pushes}
 use Rattle.meant_lines.proofs.Elements.{single_value}
 use Rattle.meant_lines.proofs.Fronts.{IsExactHere, IsExactFront, fronts_are_exact, fronts_end}
+use Rattle.meant_lines.proofs.Instructions.{constants_are_added}
 use Rattle.meant_lines.proofs.Operators.{first_stand, both_true}
 use Rattle.meant_lines.proofs.Prefixes.{prefixes_push}
 use Rattle.meant_lines.proofs.Pushing.{constants_push, scalars_push}
@@ -110,6 +114,18 @@ first_small g top es env ps t leaf small last v pushes stand h carries =
       below = λ is. p.below (both_true small last is).0;
       alone = λ is. absurd (cc is);
     }
+
+nothing_more : (g : Ground) (ps : List Piece) (t : ℕ) (leaf small : Bool) (v : ℤ) (h : pieces.Held)
+    → Pushed g ps t leaf small v h → Pushed g (ps ++ []) t false small v h
+nothing_more g ps t leaf small v h p =
+    subst (λ (qs : List Piece). Pushed g qs t false small v h) (sym (append-nil ps)) (record {
+      after = p.after;
+      leads = p.leads;
+      a = p.a;
+      changes = p.changes;
+      below = p.below;
+      alone = λ is. absurd (cc is);
+    })
 
 subscript_number : (f : ℤ → Option ℤ) (n : Option ℤ) (v : ℤ) → option_and_then f n ≡ Some v
     → (i : ℤ) × (n ≡ Some i)
@@ -377,6 +393,34 @@ pub conditions_are_pushed : ConditionsArePushed
 conditions_are_pushed g top t es env e b at c is =
     expression_pushes g top es env at.holds e types.Condition t (word.truth b)
     (record { low = at.free; few = at.counted }) c (truth_word es env e b c.type_is is)
+
+-- ---- tests
+
+zero_added : (b : Bool) → checked_sum (word.truth b) (pos 0) ≡ Some (word.truth b)
+zero_added true = refl
+zero_added false = refl
+
+-- what is pushed stays where 0 is added, or nothing
+forgotten : (g : Ground) (top : ℕ) (es : List Entry) (env : Environment) (shows : Bool) (test : Option Tested)
+    (ps : List Piece) (t : ℕ) (leaf small b : Bool) → Pushes g top es env ps t leaf small (word.truth b)
+    → Pushes g top es env (ps ++ forgets shows test) t false small (word.truth b)
+forgotten g top es env true None ps t leaf small b pushes stand h carries =
+    let code : List Piece = forgets true None in
+    let p = pushes (first_stand g ps code stand) h carries in
+    replaced g ps code t leaf small (word.truth b) (word.truth b) h p
+    (constants_are_added g.footing (pos 0) (word.truth b) p.after
+    (ap (λ (u : ℤ). checked_sum u (pos 0)) p.a ∙ zero_added b))
+forgotten g top es env true (Some test) ps t leaf small b pushes stand h carries =
+    nothing_more g ps t leaf small (word.truth b) h (pushes (first_stand g ps [] stand) h carries)
+forgotten g top es env false test ps t leaf small b pushes stand h carries =
+    nothing_more g ps t leaf small (word.truth b) h (pushes (first_stand g ps [] stand) h carries)
+
+pub tests_are_pushed : TestsArePushed
+tests_are_pushed g top t es env e b at c is =
+    forgotten g top es env (may_show es e) (test_of es e) (expression_code g.homes es t e) t (is_leaf es e)
+    (is_small es e) b (conditions_are_pushed g top t es env e b at c is)
+
+-- ---- subscripts
 
 subscripts_pushed : (g : Ground) (top t : ℕ) (es : List Entry) (env : Environment) (e : Expression) (i v : ℤ)
     (vs : List ℤ) → IsReady top es env t → IsChecked es e types.Int → number_of env e ≡ Some i → item_of vs i ≡ Some v

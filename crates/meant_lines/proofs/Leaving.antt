@@ -13,11 +13,11 @@ use Rattle.word_arithmetic.specs.Range.{Ends}
 use Rattle.line_pieces.specs.Homes as home
 use Rattle.line_pieces.specs.Homes.{Home, Nowhere, Word, Block, Link, Passed}
 use Rattle.meant_lines.specs.Words.{Holds}
-use Rattle.meant_lines.specs.Carrying.{Ground, IsScalarKept, IsArrayKept, IsKeptThere, AreKept, start_of, end_of, Rise}
+use Rattle.meant_lines.specs.Carrying.{Ground, IsScalarKept, IsKeptThere, AreKept, start_of, end_of, Rise}
 use Rattle.meant_lines.specs.Carrying.{Carries}
 use Rattle.meant_lines.specs.Opening.{BlocksAreCarried, OutermostAreCarried, OtherTurnsAreCarried}
 use Rattle.meant_lines.proofs.Carrying.{outer_words_stay, starts_before}
-use Rattle.meant_lines.proofs.Declaring.{option_there, new_names_are_carried}
+use Rattle.meant_lines.proofs.Declaring.{option_there, array_there, new_names_are_carried}
 use Rattle.meant_lines.proofs.Shapes.{same_kept}
 use Rattle.meant_lines.proofs.Words.{all_alike}
 
@@ -106,24 +106,12 @@ module _ (g : Ground) (word : ℕ) (m : Memory) (old new : ℕ → ℤ) (same : 
   scalar_turned (home.Table values) kind type range held ends is = absurd is
   scalar_turned (Passed w) kind type range held ends is = absurd is
 
-  array_turned : (h : Home) (type : ValueType) (held : Held) → IsArrayKept before m h type held
-      → IsArrayKept after m h type held
-  array_turned Nowhere type held is = absurd is
-  array_turned (Word w) type (Many vs) is = is
-  array_turned (Word w) type Nothing is = absurd is
-  array_turned (Word w) type (One v) is = absurd is
-  array_turned (home.Table values) type (Many vs) is = (is.0, λ reads. is.1 reads)
-  array_turned (home.Table values) type Nothing is = absurd is
-  array_turned (home.Table values) type (One v) is = absurd is
-  array_turned (Block w head) type held is = absurd is
-  array_turned (Link number) type held is = absurd is
-  array_turned (Passed w) type held is = absurd is
-
   home_turned : (o : Option Home) (k : Meaning) (held : Held) → end_of o k ≤ word → IsKeptThere before m o k held
       → IsKeptThere after m o k held
   home_turned None k held ends is = absurd is
   home_turned (Some h) (Scalar kind type range) held ends is = scalar_turned h kind type range held ends is
-  home_turned (Some h) (Array kind type size range) held ends is = array_turned h type held is
+  home_turned (Some h) (Array kind type size range) held ends is =
+      array_there before g.homes new m h type held is
   home_turned (Some h) (Constant type value) held ends is = tt
   home_turned (Some h) (Channel type) held ends is = tt
   home_turned (Some h) (Channels type size) held ends is = tt

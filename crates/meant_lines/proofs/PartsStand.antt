@@ -1,11 +1,42 @@
--- The parts of code stand on its ground.
-use Rattle.std.proofs.Common.{◌≡◌, ℤ, pos, List, [], ◌∷◌, ◌++◌, refl, sym, ap, subst, ◌∙◌, append_assoc}
+-- Code stores within the words that it takes, and its parts stand on its ground.
+use Rattle.std.proofs.Common.{◌≡◌, ℕ, ◌≤◌, ℤ, pos, List, [], ◌∷◌, ◌++◌, refl, sym, ap, subst, ◌∙◌, append_assoc, arith}
+use Rattle.prefix_decoder.specs.declared.function.Fun.{Fun}
 use Rattle.prefix_decoder.specs.declared.function.Fun.TheVariants as fun
-use Rattle.code_pieces.specs.Pieces.{Piece, Direct, TableAddress}
+use Rattle.code_pieces.specs.Laying.{word_above, words_named, words_taken}
+use Rattle.code_pieces.specs.Pieces.{Piece, Direct, Jump, JumpUnless, LoopBack, Distance, StartBranch, Select}
+use Rattle.code_pieces.specs.Pieces.{TableAddress, Row, Place, Within, Par}
 use Rattle.placed_code.specs.TablesInMemory.{ReadsTable}
 use Rattle.meant_lines.specs.Carrying.{Ground}
-use Rattle.meant_lines.specs.Pushing.{StoresWithin, AllStoreWithin, StandsOn, AllStandOn, PartsStand}
+use Rattle.meant_lines.specs.Pushing.{StoresWithin, AllStoreWithin, StandsOn, AllStandOn, CodeStoresWithin, PartsStand}
 use Rattle.meant_lines.proofs.Operators.{first_all, rest_all}
+
+-- ---- the whole
+
+piece_within : (words : ℕ) (f : Fun) (n : ℤ) → word_above f n ≤ words → StoresWithin words (Direct f n)
+piece_within words fun.StoreLocal (pos word) less = omega (arith, less)
+piece_within words f n less = tt
+
+-- words that are named are below those that are taken
+all_within : (words : ℕ) (ps : List Piece) → words_named ps ≤ words → AllStoreWithin words ps
+all_within words [] less = tt
+all_within words (Direct f n ∷ ps) less =
+    (piece_within words f n (omega (arith, less)), all_within words ps (omega (arith, less)))
+all_within words (Within workspace ∷ ps) less = (tt, all_within words ps (omega (arith, less)))
+all_within words (Jump to ∷ ps) less = (tt, all_within words ps less)
+all_within words (JumpUnless to ∷ ps) less = (tt, all_within words ps less)
+all_within words (LoopBack head behind ∷ ps) less = (tt, all_within words ps less)
+all_within words (Distance from to ∷ ps) less = (tt, all_within words ps less)
+all_within words (StartBranch entry successor ∷ ps) less = (tt, all_within words ps less)
+all_within words (Select targets ∷ ps) less = (tt, all_within words ps less)
+all_within words (TableAddress values ∷ ps) less = (tt, all_within words ps less)
+all_within words (Row label entries ∷ ps) less = (tt, all_within words ps less)
+all_within words (Place label ∷ ps) less = (tt, all_within words ps less)
+all_within words (Par par ∷ ps) less = (tt, all_within words ps less)
+
+pub code_stores_within : CodeStoresWithin
+code_stores_within ps = all_within (words_taken ps) ps (omega arith)
+
+-- ---- its parts
 
 piece_stands : (g : Ground) (p : Piece) → StoresWithin g.words p
     → ((values : List ℤ) → p ≡ TableAddress values → ReadsTable g.pieces values) → StandsOn g.words g.pieces p

@@ -1,10 +1,9 @@
 -- The word of an expression, and what is known of it.
-use Rattle.std.proofs.Common.{◌≡◌, ℕ, ℤ, pos, Bool, true, false, cond, List, Option, Some, None, Result, Ok}
+use Rattle.std.proofs.Common.{◌≡◌, ℕ, ℤ, Bool, true, false, cond, List, Option, Some, None, Result, Ok}
 use Rattle.std.proofs.Common.{Err}
 use Rattle.std.proofs.Common.{FitsSigned, IsSomeAnd, refl, sym, ap, subst, ◌∙◌, arith}
 use Rattle.std.specs.Prelude.{option_map, option_and_then, not, IfSome}
 use Rattle.std.specs.Int.{w32}
-use Rattle.std.specs.Ordering.{int_eq}
 use Rattle.std.proofs.lemmas.Int.{ints}
 use Rattle.std.proofs.lemmas.Option.{same_Some}
 use Rattle.word_arithmetic.specs.Comparison.{compares}
@@ -38,6 +37,7 @@ use Rattle.scalar_ranges.specs.Values.{truth_of_terms, negated, chain_value, log
 use Rattle.scalar_ranges.proofs.BoundLaws.{bounds_hold}
 use Rattle.scalar_ranges.proofs.Parts.{both_ok, both_are, then_ok, ok_same}
 use Rattle.program_meaning.specs.GoingWell.{IsTrueIn}
+use Rattle.program_meaning.specs.TypedValues.{IsNumberOf}
 use Rattle.program_meaning.proofs.TypesStay.{types_stay}
 use Rattle.program_meaning.proofs.ValuesTyped.{values_are_typed}
 use Rattle.meant_lines.specs.OperatorLaws.{IsValue, joined_value, prefixed_value}
@@ -45,6 +45,7 @@ use Rattle.meant_lines.specs.ChainLaws.{word_of_either, word_of_term, word_of_te
 use Rattle.meant_lines.specs.ExpressionLaws.{IsChecked}
 use Rattle.meant_lines.proofs.Chains.{truths_are_joined}
 use Rattle.meant_lines.proofs.Checking.{bound_in, two_parts, then_parts}
+use Rattle.meant_lines.proofs.Comparisons.{not_truth}
 
 -- the number of an expression, or the word of its truth
 abbrev pub word_of : Environment → Expression → Option ℤ
@@ -206,28 +207,34 @@ truth_fits : (b : Bool) → FitsSigned w32 (truth b)
 truth_fits true = omega (arith, ints)
 truth_fits false = omega (arith, ints)
 
+number_word : (es : List Entry) (env : Environment) (e : Expression) (type : ExprType) (v : ℤ) (P : ℤ → Type 0)
+    → IsChecked es e type → ((b : Bound) → bound_of es e ≡ Ok b → IsSomeAnd (number_of env e) (IsBound b))
+    → IfSome (number_of env e) P → (P v → FitsSigned w32 v) → word_of env e ≡ Some v → IsWordOf es e v
+number_word es env e type v P c has typed fits word =
+    let b = bound_in es e type c in
+    let k = number_known b.0 (number_of env e) (truth_of env e) v P (has b.0 b.1) typed word in
+    record {
+      fits = fits k.0;
+      known = subst (λ (r : Result Bound ℕ). IsValue (exact_value r) v) (sym b.1) (bound_value b.0 v k.1);
+    }
+
+-- where names hold what is of their types
+pub number_typed : (es : List Entry) (env : Environment) (e : Expression) (type : ExprType) → IsTrueIn es env
+    → IsChecked es e type → IfSome (number_of env e) (IsNumberOf type)
+number_typed es env e type holds c =
+    values_are_typed es env e type (λ name m is. types_stay.finding es env name m holds.meets holds.typed is) c.literals
+    c.type_is
+
 pub words_are_known : (es : List Entry) (env : Environment) (e : Expression) (type : ExprType) (v : ℤ)
     → IsTrueIn es env → IsChecked es e type → word_of env e ≡ Some v → IsWordOf es e v
 words_are_known es env e types.Int v holds c word =
-    let b = bound_in es e types.Int c in
-    let k = number_known b.0 (number_of env e) (truth_of env e) v (FitsSigned w32)
-    (bounds_hold es env e types.Int b.0 holds.meets c.type_is b.1)
-    (values_are_typed es env e types.Int (λ name m is. types_stay.finding es env name m holds.meets holds.typed is)
-    c.literals c.type_is) word in
-    record {
-      fits = k.0;
-      known = subst (λ (r : Result Bound ℕ). IsValue (exact_value r) v) (sym b.1) (bound_value b.0 v k.1);
-    }
+    number_word es env e types.Int v (FitsSigned w32) c
+    (λ b is. bounds_hold es env e types.Int b holds.meets c.type_is is) (number_typed es env e types.Int holds c)
+    (λ fits. fits) word
 words_are_known es env e types.Byte v holds c word =
-    let b = bound_in es e types.Byte c in
-    let k = number_known b.0 (number_of env e) (truth_of env e) v (InRange bytes)
-    (bounds_hold es env e types.Byte b.0 holds.meets c.type_is b.1)
-    (values_are_typed es env e types.Byte (λ name m is. types_stay.finding es env name m holds.meets holds.typed is)
-    c.literals c.type_is) word in
-    record {
-      fits = byte_fits v k.0;
-      known = subst (λ (r : Result Bound ℕ). IsValue (exact_value r) v) (sym b.1) (bound_value b.0 v k.1);
-    }
+    number_word es env e types.Byte v (InRange bytes) c
+    (λ b is. bounds_hold es env e types.Byte b holds.meets c.type_is is) (number_typed es env e types.Byte holds c)
+    (byte_fits v) word
 words_are_known es env e types.Condition v holds c word =
     let none = conditions_are_none es env e c.type_is in
     let b = either_truth (truth_of env e) v
@@ -248,10 +255,6 @@ pub turned_word : (n : Option ℤ) (w : Option Bool) (v : ℤ) → word_of_eithe
     → (x : ℤ) × (word_of_either n w ≡ Some x) × (prefixed_value prefix.BitNot x ≡ Some v)
 turned_word None w v is = absurd (cc is)
 turned_word (Some x) w v is = (x, refl, is)
-
-not_truth : (b : Bool) → truth (int_eq (truth b) (pos 0)) ≡ truth (not b)
-not_truth true = refl
-not_truth false = refl
 
 pub denied_word : (w : Option Bool) (v : ℤ) → word_of_either None (option_map not w) ≡ Some v
     → (b : Bool) × (w ≡ Some b) × (prefixed_value prefix.Not (truth b) ≡ Some v)

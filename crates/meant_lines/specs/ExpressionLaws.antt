@@ -1,5 +1,5 @@
 -- What the code of expressions pushes: their number, and of a condition 1 or 0.
-use Rattle.std.specs.Prelude.{◌≡◌, ℕ, ◌≤◌, ℤ, Bool, true, List, FitsSigned, Some, Ok}
+use Rattle.std.specs.Prelude.{◌≡◌, ℕ, ◌≤◌, ℤ, Bool, true, false, List, ◌++◌, FitsSigned, Some, Ok}
 use Rattle.std.specs.Int.{w32}
 use Rattle.word_arithmetic.specs.Range.{Ends}
 use Rattle.word_arithmetic.specs.Word.{truth}
@@ -10,9 +10,11 @@ use Rattle.scalar_ranges.specs.declared.types.ExprType.TheVariants as types
 use Rattle.scalar_ranges.specs.Bounds.{bound_of, range_found}
 use Rattle.scalar_ranges.specs.Entries.{Entry}
 use Rattle.scalar_ranges.specs.Environments.{Environment, item_of}
+use Rattle.scalar_ranges.specs.Narrowing.{test_of}
 use Rattle.scalar_ranges.specs.Types.{type_of}
 use Rattle.scalar_ranges.specs.Values.{number_of, truth_of}
 use Rattle.program_meaning.specs.GoingWell.{IsTrueIn}
+use Rattle.line_pieces.specs.Actions.{forgets, may_show}
 use Rattle.line_pieces.specs.Expressions.{expression_code, is_leaf, is_small, subscript_of, before_offset, offset_of}
 use Rattle.line_pieces.specs.Expressions.{or_zero, single}
 use Rattle.meant_lines.specs.Carrying.{Ground}
@@ -44,6 +46,13 @@ abbrev pub ConditionsArePushed : Type 0
 ConditionsArePushed = (g : Ground) (top t : ℕ) (es : List Entry) (env : Environment) (e : Expression) (holds : Bool)
     → IsReady top es env t → IsChecked es e types.Condition → truth_of env e ≡ Some holds
     → Pushes g top es env (expression_code g.homes es t e) t (is_leaf es e) (is_small es e) (truth holds)
+
+-- So it does with what makes the machine forget what was compared, before the jump of a test.
+abbrev pub TestsArePushed : Type 0
+TestsArePushed = (g : Ground) (top t : ℕ) (es : List Entry) (env : Environment) (e : Expression) (holds : Bool)
+    → IsReady top es env t → IsChecked es e types.Condition → truth_of env e ≡ Some holds
+    → Pushes g top es env (expression_code g.homes es t e ++ forgets (may_show es e) (test_of es e)) t false
+    (is_small es e) (truth holds)
 
 -- The code of a subscript before its constant pushes a number, which selects this item with the constant.
 pub record SubscriptPushes (g : Ground) (top : ℕ) (es : List Entry) (env : Environment) (t : ℕ) (e : Expression)

@@ -8,6 +8,7 @@ use Rattle.scalar_ranges.specs.Entries.{Entry}
 use Rattle.scalar_ranges.specs.Environments.{Environment}
 use Rattle.code_pieces.specs.declared.words.TheConstants.{GREATEST_WORD}
 use Rattle.code_pieces.specs.Pieces.{Piece, Direct, TableAddress, word_after}
+use Rattle.code_pieces.specs.Laying.{words_taken}
 use Rattle.line_pieces.specs.Expressions.{Operand}
 use Rattle.placed_code.specs.StraightPieces.{Held, LeadOn, with_pushed}
 use Rattle.placed_code.specs.TablesInMemory.{ReadsTable}
@@ -44,6 +45,10 @@ StandsOn words whole p = ⊤
 
 abbrev pub AllStandOn : Ground → List Piece → Type 0
 AllStandOn g ps = AllByRecursion (StandsOn g.words g.pieces) ps
+
+-- All code stores within the words that it takes.
+abbrev pub CodeStoresWithin : Type 0
+CodeStoresWithin = (ps : List Piece) → AllStoreWithin (words_taken ps) ps
 
 -- So are all parts of the code, if it stores within the frame.
 abbrev pub PartsStand : Type 0

@@ -22,7 +22,8 @@ ghost use Rattle.meant_lines.specs.OperatorLaws.{PrefixesPush, ChainsCompute, Tr
 ghost use Rattle.meant_lines.specs.OperatorLaws.{OneMorePushes};
 ghost use Rattle.meant_lines.specs.ChainLaws.{TermsPush};
 ghost use Rattle.meant_lines.specs.ExpressionLaws.{NumbersArePushed, ConditionsArePushed, SubscriptsArePushed};
-ghost use Rattle.meant_lines.specs.Pushing.{PartsStand};
+ghost use Rattle.meant_lines.specs.ExpressionLaws.{TestsArePushed};
+ghost use Rattle.meant_lines.specs.Pushing.{CodeStoresWithin, PartsStand};
 ghost use Rattle.meant_lines.specs.Housing.{DeclaredHomesRise, BlocksRise, MoreWordsRise};
 ghost use Rattle.meant_lines.specs.Zeroing.{ScalarsAreZeroed, ArraysAreZeroed};
 ghost use Rattle.meant_lines.specs.Opening.{DeclarationsAreCarried, BlocksAreCarried, OutermostAreCarried};
@@ -166,11 +167,14 @@ pub fn whole_chains_are_pushed()
 pub fn expressions_are_pushed()
     ensures numbers { NumbersArePushed }
     ensures conditions { ConditionsArePushed }
+    ensures tests { TestsArePushed }
     ensures subscripts { SubscriptsArePushed }
 {}
 
-/// Where code stores words of the frame alone, so do its parts, and the tables that they read are tables of the code.
+/// Code stores only words that it takes. Where it stores words of the frame alone, so do its parts, and the tables that
+/// they read are tables of the code.
 pub fn parts_of_code_stand()
+    ensures whole { CodeStoresWithin }
     ensures parts { PartsStand }
 {}
 

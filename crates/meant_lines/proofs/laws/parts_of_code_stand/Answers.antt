@@ -1,5 +1,8 @@
-use Rattle.meant_lines.proofs.PartsStand.{parts_stand}
+use Rattle.meant_lines.proofs.PartsStand.{code_stores_within, parts_stand}
 use Rattle.meant_lines.proofs.laws.parts_of_code_stand.Goals as goal
 
-pub returns : goal.returns
-returns c = record { parts = parts_stand }
+pub returns-clause-whole : goal.returns-clause-whole
+returns-clause-whole c = code_stores_within
+
+pub returns-clause-parts : goal.returns-clause-parts
+returns-clause-parts c = parts_stand
