@@ -1,14 +1,16 @@
 -- The code of a declaration leads to where memory carries the environment with its names.
-use Rattle.std.proofs.Common.{◌≡◌, ℕ, zero, suc, ◌+◌, ◌<◌, ◌≤◌, ℤ, pos, Bool, true, false, cond, nat_eq, List, []}
+use Rattle.std.proofs.Common.{◌≡◌, ℕ, zero, suc, ◌+◌, ◌<◌, ◌≤◌, inl, ℤ, pos, Bool, true, false, cond, nat_eq, nat_lt}
+use Rattle.std.proofs.Common.{List, []}
 use Rattle.std.proofs.Common.{◌∷◌, ◌++◌, length, map, Option, Some, None, FitsSigned, refl, sym, ap, subst, ◌∙◌, arith}
-use Rattle.std.specs.Prelude.{fold, replicate, int_le, unsigned_abs, unwrap_or, option_map, option_and_then, IfSome}
+use Rattle.std.specs.Prelude.{⊤, fold, replicate, int_le, unsigned_abs, unwrap_or, option_map, option_and_then, IfSome}
 use Rattle.std.specs.Int.{w32}
 use Rattle.std.specs.List.{AllByRecursion}
+use Rattle.std.proofs.lemmas.Bool.{ltb-true, ltb-false}
 use Rattle.std.proofs.lemmas.Int.{ints, clamps}
 use Rattle.std.proofs.lemmas.Option.{same_Some}
 use Rattle.module_format.specs.declared.limits.TheConstants.{MAX_DATA_WORDS}
 use Rattle.word_arithmetic.specs.Range.{Ends, InRange, constant}
-use Rattle.machine_state.specs.Memory.{Memory}
+use Rattle.machine_state.specs.Memory.{Memory, byte_at}
 use Rattle.occam_parser.specs.declared.tree.ValueType.{ValueType}
 use Rattle.occam_parser.specs.declared.tree.ValueType.TheVariants as value_type
 use Rattle.occam_parser.specs.Expressions.{Expression}
@@ -40,28 +42,58 @@ use Rattle.line_pieces.specs.Declarations.{Frame, with_words, with_names, home_f
 use Rattle.line_pieces.specs.Declarations.{channels_in, zero_code, zero_names, declared}
 use Rattle.line_pieces.specs.Declarations.{declaration_code}
 use Rattle.placed_code.specs.StraightPieces as pieces
-use Rattle.placed_code.specs.StraightPieces.{LeadOn, done}
+use Rattle.placed_code.specs.StraightPieces.{LeadOn, done, word_place}
 use Rattle.placed_code.proofs.StraightPieces.{lead_both}
 use Rattle.meant_lines.specs.Words.{ChangesWithin}
 use Rattle.meant_lines.specs.Carrying.{Ground, HasTables, IsArrayKept, IsKept, words_of, start_of, end_of, HasFrame}
 use Rattle.meant_lines.specs.Carrying.{Carries}
 use Rattle.meant_lines.specs.Pushing.{AllStandOn, IsCounted}
 use Rattle.meant_lines.specs.Zeroing.{AreZero}
-use Rattle.meant_lines.specs.Opening.{on_frame, Opened, DeclarationsAreCarried}
+use Rattle.meant_lines.specs.Opening.{on_frame, HasZeros, Opened, DeclarationsAreCarried}
 use Rattle.meant_lines.proofs.Declaring.{kept_there, new_names_are_carried, zero_scalars_are_kept, zero_arrays_are_kept}
 use Rattle.meant_lines.proofs.Housing.{long_more, whole_words, names_further, after_counted, variables_within}
 use Rattle.meant_lines.proofs.Housing.{channels_within}
 use Rattle.meant_lines.proofs.Operators.{first_stand, rest_stand, temporary_within}
-use Rattle.meant_lines.proofs.Words.{all_alike}
+use Rattle.meant_lines.proofs.Words.{all_alike, changes_both, changes_wider}
 use Rattle.meant_lines.proofs.Zeroing.{scalars_are_zeroed, arrays_are_zeroed}
 
 -- ---- names one after another
 
+-- words are 0, if they are those of variables
+abbrev AreZeroIf : Bool → Memory → (word count : ℕ) → Type 0
+AreZeroIf true m word count = AreZero m word count
+AreZeroIf false m word count = ⊤
+
+none_zero : (clear : Bool) (m : Memory) (word : ℕ) → AreZeroIf clear m word 0
+none_zero true m word = λ place low high. absurd (omega (arith, low, high))
+none_zero false m word = tt
+
+-- words and those after them, which alone have changed since
+more_zero : (clear : Bool) (word count next more words : ℕ) (old new : Memory) → next ≡ word + count
+    → AreZeroIf clear old word count → ChangesWithin next words old new → AreZeroIf clear new next more
+    → AreZeroIf clear new word (count + more)
+more_zero false word count next more words old new same first changes rest = tt
+more_zero true word count next more words old new same first changes rest = λ place low high.
+    zero_by (nat_lt place (word_place next)) word count next more words old new same first changes rest place low high
+    refl
+  where
+    zero_by : (t : Bool) (word count next more words : ℕ) (old new : Memory) → next ≡ word + count
+        → AreZero old word count → ChangesWithin next words old new → AreZero new next more → (place : ℕ)
+        → word_place word ≤ place → place < word_place (word + (count + more)) → nat_lt place (word_place next) ≡ t
+        → byte_at new place ≡ Some 0
+    zero_by true word count next more words old new same first changes rest place low high test =
+        let less = ltb-true place (word_place next) test in
+        changes.bytes place (inl less) ∙ first place low (omega (arith, less, same))
+    zero_by false word count next more words old new same first changes rest place low high test =
+        rest place (ltb-false place (word_place next) test) (omega (arith, high, same))
+
 -- the code for one name leads to where its words have what it holds
-record IsSet (g : Ground) (k : Meaning) (held : Held) (word : ℕ) (ps : List Piece) (before : pieces.Held) : Type 0 where
+record IsSet (g : Ground) (clear : Bool) (k : Meaning) (held : Held) (word count : ℕ) (ps : List Piece)
+    (before : pieces.Held) : Type 0 where
   after : pieces.Held
   leads : LeadOn g.footing ps before after
   changes : ChangesWithin word g.words before.memory after.memory
+  zeros : AreZeroIf clear after.memory word count
   kept : IsKept g after.memory (Word word) k held
 
 -- the code for each of these names
@@ -69,25 +101,37 @@ abbrev codes : (ℕ → List Piece) → ℕ → List (List ℕ) → ℕ → List
 codes code count [] word = []
 codes code count (name ∷ names) word = code word ++ codes code count names (word_after word count)
 
-record AreNamed (g : Ground) (f : Frame) (ps : List Piece) (es : List Entry) (inner : Environment)
-    (before : pieces.Held) : Type 0 where
+record AreNamed (g : Ground) (clear : Bool) (start : ℕ) (f : Frame) (ps : List Piece) (es : List Entry)
+    (inner : Environment) (before : pieces.Held) : Type 0 where
   after : pieces.Held
   leads : LeadOn g.footing ps before after
   carries : Carries (on_frame f g) f.top es inner after.memory
+  changes : ChangesWithin start g.words before.memory after.memory
+  count : ℕ
+  ends : f.top ≡ start + count
+  zeros : AreZeroIf clear after.memory start count
 
 frame_of : (f : Frame) (g : Ground) (m : Memory) → HasFrame (on_frame f g) m → HasFrame g m
 frame_of f g m frame = record { workspace = frame.workspace; few = frame.few; inside = frame.inside }
 
-module _ (g : Ground) (k : Meaning) (held : Held) (count : ℕ) (code : ℕ → List Piece) (is : IsHeld k held)
-    (within : words_of k ≤ count)
+module _ (g : Ground) (clear : Bool) (k : Meaning) (held : Held) (count : ℕ) (code : ℕ → List Piece)
+    (is : IsHeld k held) (within : words_of k ≤ count)
     (set : (word : ℕ) (h : pieces.Held) → HasFrame g h.memory → word ≤ g.words → AllStandOn g (code word)
-    → IsSet g k held word (code word) h) where
+    → IsSet g clear k held word count (code word) h) where
   names_carried : (names : List (List ℕ)) (f : Frame) (es : List Entry) (env : Environment) (h : pieces.Held)
       → Meets env es → length f.homes ≡ length es → (with_names count names f).top ≤ g.words
       → AllStandOn g (codes code count names f.top) → Carries (on_frame f g) f.top es env h.memory
-      → AreNamed g (with_names count names f) (codes code count names f.top) (add_all names k es)
+      → AreNamed g clear f.top (with_names count names f) (codes code count names f.top) (add_all names k es)
       (bind_all names held env) h
-  names_carried [] f es env h meets long room stand carries = record { after = h; leads = done; carries = carries }
+  names_carried [] f es env h meets long room stand carries = record {
+    after = h;
+    leads = done;
+    carries = carries;
+    changes = all_alike f.top g.words h.memory;
+    count = 0;
+    ends = omega arith;
+    zeros = none_zero clear h.memory f.top;
+  }
   names_carried (name ∷ names) f es env h meets long room stand carries =
       let later : List Piece = codes code count names (word_after f.top count) in
       let first = set f.top h (frame_of f g h.memory carries.frame) carries.room
@@ -101,7 +145,26 @@ module _ (g : Ground) (k : Meaning) (held : Held) (count : ℕ) (code : ℕ → 
       let rest = names_carried names (with_words count f) (add name k es) (bind name held env) first.after
       (refl, is, meets) (long_more f.homes (Word f.top) ∙ ap suc long) room (rest_stand g (code f.top) later stand)
       next in
-      record { after = rest.after; leads = lead_both first.leads rest.leads; carries = rest.carries }
+      record {
+        after = rest.after;
+        leads = lead_both first.leads rest.leads;
+        carries = rest.carries;
+        changes = changes_both first.changes (changes_wider (omega (arith, whole)) (omega arith) rest.changes);
+        count = count + rest.count;
+        ends = let ends = rest.ends in omega (arith, ends, whole);
+        zeros = more_zero clear f.top count (word_after f.top count) rest.count g.words first.after.memory
+            rest.after.memory whole first.zeros rest.changes rest.zeros;
+      }
+
+-- the words of names that are stored are in the frame
+names_within : (g : Ground) (count : ℕ) (code : ℕ → List Piece) → ((word : ℕ) → word ≤ g.words
+    → AllStandOn g (code word) → word_after word count ≤ g.words) → (names : List (List ℕ)) (f : Frame)
+    → f.top ≤ g.words → AllStandOn g (codes code count names f.top) → (with_names count names f).top ≤ g.words
+names_within g count code within [] f room stand = room
+names_within g count code within (name ∷ names) f room stand =
+    let later : List Piece = codes code count names (word_after f.top count) in
+    names_within g count code within names (with_words count f)
+    (within f.top room (first_stand g (code f.top) later stand)) (rest_stand g (code f.top) later stand)
 
 zero_codes : (size : Option Expression) (count : ℕ) (names : List (List ℕ)) (word : ℕ)
     → codes (λ w. zero_code size w count) count names word ≡ zero_names size count names word
@@ -117,7 +180,7 @@ no_codes count (name ∷ names) word = no_codes count names (word_after word cou
 
 scalar_set : (g : Ground) (type : ValueType) (range : Ends) (count word : ℕ) (h : pieces.Held) → HasFrame g h.memory
     → word ≤ g.words → AllStandOn g (zero_code None word count)
-    → IsSet g (entries.Scalar scalar.Variable type range) (One (pos 0)) word (zero_code None word count) h
+    → IsSet g true (entries.Scalar scalar.Variable type range) (One (pos 0)) word 1 (zero_code None word count) h
 scalar_set g type range count word h frame low stand =
     let few : IsCounted word = let most = frame.few in omega (arith, low, most) in
     let zeroed = scalars_are_zeroed g word h frame (temporary_within g.words word few stand.1.0) in
@@ -125,6 +188,7 @@ scalar_set g type range count word h frame low stand =
       after = zeroed.after;
       leads = zeroed.leads;
       changes = zeroed.changes;
+      zeros = zeroed.zeros;
       kept = zero_scalars_are_kept g word zeroed.after.memory scalar.Variable type range zeroed.zeros;
     }
 
@@ -137,7 +201,7 @@ after_within words word count few is = omega (arith, few, is)
 array_set : (g : Ground) (type : ValueType) (range : Ends) (size : Expression) (n count word : ℕ) (h : pieces.Held)
     → count ≡ words_for type n → 1 ≤ count → HasFrame g h.memory → word ≤ g.words
     → AllStandOn g (zero_code (Some size) word count)
-    → IsSet g (entries.Array array.Variable type (Some n) range) (Many (replicate n (pos 0))) word
+    → IsSet g true (entries.Array array.Variable type (Some n) range) (Many (replicate n (pos 0))) word count
     (zero_code (Some size) word count) h
 array_set g type range size n count word h same some frame low stand =
     let zeroed = arrays_are_zeroed g word count h frame some
@@ -146,9 +210,20 @@ array_set g type range size n count word h same some frame low stand =
       after = zeroed.after;
       leads = zeroed.leads;
       changes = zeroed.changes;
+      zeros = zeroed.zeros;
       kept = zero_arrays_are_kept g word n zeroed.after.memory array.Variable type range
           (subst (AreZero zeroed.after.memory word) same zeroed.zeros);
     }
+
+scalar_within : (g : Ground) (count word : ℕ) → g.words ≤ MAX_DATA_WORDS → word ≤ g.words
+    → AllStandOn g (zero_code None word count) → word_after word 1 ≤ g.words
+unfolding counted word_after
+scalar_within g count word few low stand = let less = stand.1.0 in omega (arith, few, low, less)
+
+array_within : (g : Ground) (size : Expression) (count word : ℕ) → word ≤ g.words
+    → AllStandOn g (zero_code (Some size) word count) → word_after word count ≤ g.words
+unfolding counted word_after
+array_within g size count word low stand = let less = stand.1.0 in omega (arith, less)
 
 -- the size of an array, and what it holds
 record HasSize (es : List Entry) (size : Expression) (held : Held) : Type 0 where
@@ -205,25 +280,27 @@ module _ (g : Ground) (f : Frame) (es : List Entry) (env : Environment) (h : pie
   -- with the names of variables
   abbrev HaveVariables : ValueType → Option Expression → List (List ℕ) → Held → Type 0
   HaveVariables type size names held =
-      AreNamed g (with_names (words_in es type size) names f) (zero_names size (words_in es type size) names f.top)
-      (add_all names (variable_meaning es type size) es) (bind_all names held env) h
+      AreNamed g true f.top (with_names (words_in es type size) names f)
+      (zero_names size (words_in es type size) names f.top) (add_all names (variable_meaning es type size) es)
+      (bind_all names held env) h
 
   variables_named : (type : ValueType) (size : Option Expression) (names : List (List ℕ)) (held : Held)
       → IsKnown (variable_meaning es type size) → zero_for env size ≡ Some held
-      → (with_names (words_in es type size) names f).top ≤ g.words
       → AllStandOn g (zero_names size (words_in es type size) names f.top) → HaveVariables type size names held
-  variables_named type None names held known set room stand =
+  variables_named type None names held known set stand =
       let one : One (pos 0) ≡ held = same_Some (One (pos 0)) held set in
       let code = zero_codes None 1 names f.top in
       let k : Meaning = variable_meaning es type None in
+      let on = subst (AllStandOn g) (sym code) stand in
+      let room = names_within g 1 (λ w. zero_code None w 1)
+      (λ word low here. scalar_within g 1 word carries.frame.few low here) names f carries.room on in
       subst (HaveVariables type None names) one
-      (subst (λ (ps : List Piece). AreNamed g (with_names 1 names f) ps (add_all names k es)
+      (subst (λ (ps : List Piece). AreNamed g true f.top (with_names 1 names f) ps (add_all names k es)
       (bind_all names (One (pos 0)) env) h) code
-      (names_carried g k (One (pos 0)) 1 (λ w. zero_code None w 1)
+      (names_carried g true k (One (pos 0)) 1 (λ w. zero_code None w 1)
       (record { from_lo = omega (arith, ints); to_hi = omega (arith, ints) }) (variables_within es type None)
-      (scalar_set g type (constant (pos 0)) 1) names f es env h holds.meets long room
-      (subst (AllStandOn g) (sym code) stand) carries))
-  variables_named type (Some size) names held known set room stand =
+      (scalar_set g type (constant (pos 0)) 1) names f es env h holds.meets long room on carries))
+  variables_named type (Some size) names held known set stand =
       let sized = size_found es env type size held (value_as es types.Int size) (size_in es size) holds.meets refl refl
       known set in
       let n : ℕ = sized.n in
@@ -234,27 +311,30 @@ module _ (g : Ground) (f : Frame) (es : List Entry) (env : Environment) (h : pie
       let means : entries.Array array.Variable type (Some n) (type_range type) ≡ variable_meaning es type (Some size) =
       ap (λ (o : Option ℕ). entries.Array array.Variable type o (type_range type)) (sym sized.is) in
       let code = zero_codes (Some size) count names f.top in
+      let on = subst (AllStandOn g) (sym code) stand in
+      let room = names_within g count (λ w. zero_code (Some size) w count)
+      (λ word low here. array_within g size count word low here) names f carries.room on in
       subst (HaveVariables type (Some size) names) (sym sized.holds)
-      (subst (λ (k : Meaning). AreNamed g (with_names count names f) (zero_names (Some size) count names f.top)
-      (add_all names k es) (bind_all names zeros env) h) means
-      (subst (λ (ps : List Piece). AreNamed g (with_names count names f) ps
+      (subst (λ (k : Meaning). AreNamed g true f.top (with_names count names f)
+      (zero_names (Some size) count names f.top) (add_all names k es) (bind_all names zeros env) h) means
+      (subst (λ (ps : List Piece). AreNamed g true f.top (with_names count names f) ps
       (add_all names (entries.Array array.Variable type (Some n) (type_range type)) es) (bind_all names zeros env) h)
       code
-      (names_carried g (entries.Array array.Variable type (Some n) (type_range type)) zeros count
+      (names_carried g true (entries.Array array.Variable type (Some n) (type_range type)) zeros count
       (λ w. zero_code (Some size) w count)
       (many_zeros n, all_zeros (InRange (type_range type)) n (zero_in type)) (omega (arith, words))
-      (λ word b frame low on. array_set g type (type_range type) size n count word b words
-      (subst (λ (c : ℕ). 1 ≤ c) (sym words) (some_words type n sized.some)) frame low on) names f es env h holds.meets
-      long room (subst (AllStandOn g) (sym code) stand) carries)))
+      (λ word b frame low here. array_set g type (type_range type) size n count word b words
+      (subst (λ (c : ℕ). 1 ≤ c) (sym words) (some_words type n sized.some)) frame low here) names f es env h
+      holds.meets long room on carries)))
 
   -- ---- channels
 
-  channel_set : (type : ValueType) (size : Option Expression) (word : ℕ) (b : pieces.Held)
-      → IsSet g (channel_meaning es type size) Nothing word [] b
-  channel_set type None word b =
-      record { after = b; leads = done; changes = all_alike word g.words b.memory; kept = tt }
-  channel_set type (Some size) word b =
-      record { after = b; leads = done; changes = all_alike word g.words b.memory; kept = tt }
+  channel_set : (type : ValueType) (size : Option Expression) (word count : ℕ) (b : pieces.Held)
+      → IsSet g false (channel_meaning es type size) Nothing word count [] b
+  channel_set type None word count b =
+      record { after = b; leads = done; changes = all_alike word g.words b.memory; zeros = tt; kept = tt }
+  channel_set type (Some size) word count b =
+      record { after = b; leads = done; changes = all_alike word g.words b.memory; zeros = tt; kept = tt }
 
   holds_nothing : (type : ValueType) (size : Option Expression) → IsHeld (channel_meaning es type size) Nothing
   holds_nothing type None = tt
@@ -262,16 +342,16 @@ module _ (g : Ground) (f : Frame) (es : List Entry) (env : Environment) (h : pie
 
   channels_named : (type : ValueType) (size : Option Expression) (names : List (List ℕ))
       → (with_names (channels_in es size) names f).top ≤ g.words
-      → AreNamed g (with_names (channels_in es size) names f) [] (add_all names (channel_meaning es type size) es)
-      (bind_all names Nothing env) h
+      → AreNamed g false f.top (with_names (channels_in es size) names f) []
+      (add_all names (channel_meaning es type size) es) (bind_all names Nothing env) h
   channels_named type size names room =
       let count : ℕ = channels_in es size in
       let k : Meaning = channel_meaning es type size in
       let code = no_codes count names f.top in
-      subst (λ (ps : List Piece). AreNamed g (with_names count names f) ps (add_all names k es)
+      subst (λ (ps : List Piece). AreNamed g false f.top (with_names count names f) ps (add_all names k es)
       (bind_all names Nothing env) h) code
-      (names_carried g k Nothing count (λ w. []) (holds_nothing type size) (channels_within es type size)
-      (λ word b frame low on. channel_set type size word b) names f es env h holds.meets long room
+      (names_carried g false k Nothing count (λ w. []) (holds_nothing type size) (channels_within es type size)
+      (λ word b frame low on. channel_set type size word count b) names f es env h holds.meets long room
       (subst (AllStandOn g) (sym code) tt) carries)
 
 -- ---- constants
@@ -407,25 +487,29 @@ typed_inside : (o : Option Environment) (inner : Environment) (es : List Entry) 
     → IfSome o (λ (e : Environment). AreTyped e es) → AreTyped inner es
 typed_inside o inner es is typed = subst (λ (x : Option Environment). IfSome x (λ (e : Environment). AreTyped e es)) is typed
 
-opened : (g : Ground) (f : Frame) (es : List Entry) (d : Declaration) (env inner : Environment) (h : pieces.Held)
-    → env ≡ inner → AreNamed g (declared es d f) (declaration_code es d f.top) (add_declaration d es) env h
-    → Opened g f es d inner h
-opened g f es d env inner h same named = record {
+opened : (g : Ground) (clear : Bool) (f : Frame) (es : List Entry) (d : Declaration) (env inner : Environment)
+    (h : pieces.Held) → env ≡ inner
+    → (named : AreNamed g clear f.top (declared es d f) (declaration_code es d f.top) (add_declaration d es) env h)
+    → HasZeros d named.after.memory f.top (declared es d f).top → Opened g f es d inner h
+opened g clear f es d env inner h same named zeros = record {
   after = named.after;
   leads = named.leads;
   carries = subst (λ (e : Environment). Carries (on_frame (declared es d f) g) (declared es d f).top
       (add_declaration d es) e named.after.memory) same named.carries;
+  changes = named.changes;
+  zeros = zeros;
 }
 
 pub declarations_are_carried : DeclarationsAreCarried
 declarations_are_carried g f es env inner (Variables n) h holds known words is long room stand carries =
     let bound = mapped (λ (held : Held). bind_all (as_list n.names) held env) (zero_for env n.size) inner is in
-    opened g f es (Variables n) (bind_all (as_list n.names) bound.0 env) inner h bound.2
-    (variables_named g f es env h holds long carries n.value_type n.size (as_list n.names) bound.0 known bound.1 room
-    stand)
+    let named = variables_named g f es env h holds long carries n.value_type n.size (as_list n.names) bound.0 known
+    bound.1 stand in
+    opened g true f es (Variables n) (bind_all (as_list n.names) bound.0 env) inner h bound.2 named
+    (named.count, named.ends, named.zeros)
 declarations_are_carried g f es env inner (Channels n) h holds known words is long room stand carries =
-    opened g f es (Channels n) (bind_all (as_list n.names) Nothing env) inner h (same_Some _ inner is)
-    (channels_named g f es env h holds long carries n.value_type n.size (as_list n.names) room)
+    opened g false f es (Channels n) (bind_all (as_list n.names) Nothing env) inner h (same_Some _ inner is)
+    (channels_named g f es env h holds long carries n.value_type n.size (as_list n.names) room) tt
 declarations_are_carried g f es env inner (Constants c) h holds known words is long room stand carries =
     let bound = mapped (λ (held : Held). bind c.name held env) (held_by env c.value) inner is in
     let typed = typed_inside (declare (Constants c) env) inner (add_declaration (Constants c) es) is
@@ -436,10 +520,14 @@ declarations_are_carried g f es env inner (Constants c) h holds known words is l
     let k : Meaning = constant_meaning es c.value_type c.value in
     let kept = constant_kept (on_frame f g) es env h.memory holds carries.tables c.value_type c.value bound.0 known
     bound.1 has.0 in
-    opened g f es (Constants c) (bind c.name bound.0 env) inner h bound.2 (record {
+    opened g false f es (Constants c) (bind c.name bound.0 env) inner h bound.2 (record {
       after = h;
       leads = done;
       carries = new_names_are_carried (on_frame f g) f.top f.top es env c.name k bound.0 place h.memory h.memory
-          holds.meets long (home_ends es c.value_type c.value k f.top) (home_starts es c.value_type c.value f.top) room
-          (all_alike f.top g.words h.memory) kept carries;
-    })
+          holds.meets long (home_ends es c.value_type c.value k f.top) (home_starts es c.value_type c.value f.top)
+          carries.room (all_alike f.top g.words h.memory) kept carries;
+      changes = all_alike f.top g.words h.memory;
+      count = 0;
+      ends = omega arith;
+      zeros = tt;
+    }) tt

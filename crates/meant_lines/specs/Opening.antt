@@ -1,8 +1,8 @@
 -- Memory carries an environment where a scope opens, and still where it is left.
-use Rattle.std.specs.Prelude.{◌≡◌, ℕ, ◌+◌, ◌≤◌, ℤ, nat_eq, if◌then◌else◌, true, List, [], ◌∷◌, ◌++◌, length, Some}
+use Rattle.std.specs.Prelude.{◌≡◌, ⊤, ℕ, ◌+◌, ◌≤◌, ℤ, nat_eq, if◌then◌else◌, true, List, [], ◌∷◌, ◌++◌, length, Some}
 use Rattle.machine_state.specs.Memory.{Memory}
 use Rattle.occam_parser.specs.declared.tree.ValueType.{ValueType}
-use Rattle.occam_parser.specs.Lines.{Declaration}
+use Rattle.occam_parser.specs.Lines.{Declaration, Variables, Channels}
 use Rattle.occam_parser.specs.Words.{declaration_has_words}
 use Rattle.scalar_ranges.specs.declared.scope.ScalarKind.{ScalarKind}
 use Rattle.scalar_ranges.specs.Entries.{Scalar, Entry}
@@ -20,6 +20,7 @@ use Rattle.placed_code.specs.StraightPieces.{Held, LeadOn}
 use Rattle.meant_lines.specs.Words.{Holds, ChangesWithin}
 use Rattle.meant_lines.specs.Carrying.{Ground, Rise, Carries}
 use Rattle.meant_lines.specs.Pushing.{AllStandOn}
+use Rattle.meant_lines.specs.Zeroing.{AreZero}
 
 -- the same ground, with the homes of a frame
 abbrev pub on_frame : Frame → Ground → Ground
@@ -27,17 +28,30 @@ on_frame f g = record g { homes = f.homes }
 
 -- ---- declarations
 
--- The code of a declaration leads to where memory carries the environment with its names.
+-- The words of declared variables, which end there, are 0.
+abbrev pub HasZeros : Declaration → Memory → (first end : ℕ) → Type 0
+HasZeros (Variables n) m first end = (count : ℕ) × (end ≡ first + count) × AreZero m first count
+HasZeros d m first end = ⊤
+
+-- The frame has the words of channels, which no code names.
+abbrev pub HasRoomFor : Declaration → (end words : ℕ) → Type 0
+HasRoomFor (Channels n) end words = end ≤ words
+HasRoomFor d end words = ⊤
+
+-- The code of a declaration leads to where memory carries the environment with its names. Words before them have not
+-- changed.
 pub record Opened (g : Ground) (f : Frame) (es : List Entry) (d : Declaration) (inner : Environment) (before : Held)
     : Type 0 where
   pub after : Held
   pub leads : LeadOn g.footing (declaration_code es d f.top) before after
   pub carries : Carries (on_frame (declared es d f) g) (declared es d f).top (add_declaration d es) inner after.memory
+  pub changes : ChangesWithin f.top g.words before.memory after.memory
+  pub zeros : HasZeros d after.memory f.top (declared es d f).top
 
 abbrev pub DeclarationsAreCarried : Type 0
 DeclarationsAreCarried = (g : Ground) (f : Frame) (es : List Entry) (env inner : Environment) (d : Declaration)
     (h : Held) → IsTrueIn es env → IsKnownDeclaration es d → declaration_has_words d ≡ true → declare d env ≡ Some inner
-    → length f.homes ≡ length es → (declared es d f).top ≤ g.words → AllStandOn g (declaration_code es d f.top)
+    → length f.homes ≡ length es → HasRoomFor d (declared es d f).top g.words → AllStandOn g (declaration_code es d f.top)
     → Carries (on_frame f g) f.top es env h.memory → Opened g f es d inner h
 
 -- ---- blocks of loops
