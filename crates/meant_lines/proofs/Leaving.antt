@@ -15,11 +15,23 @@ use Rattle.line_pieces.specs.Homes.{Home, Nowhere, Word, Block, Link, Passed}
 use Rattle.meant_lines.specs.Words.{Holds}
 use Rattle.meant_lines.specs.Carrying.{Ground, IsScalarKept, IsKeptThere, AreKept, start_of, end_of, Rise}
 use Rattle.meant_lines.specs.Carrying.{Carries}
+use Rattle.meant_lines.specs.Opening.{BeginningsAreCarried, WordlessNamesAreCarried}
 use Rattle.meant_lines.specs.Opening.{BlocksAreCarried, OutermostAreCarried, OtherTurnsAreCarried}
 use Rattle.meant_lines.proofs.Carrying.{outer_words_stay, starts_before}
 use Rattle.meant_lines.proofs.Declaring.{option_there, array_there, new_names_are_carried}
 use Rattle.meant_lines.proofs.Shapes.{same_kept}
 use Rattle.meant_lines.proofs.Words.{all_alike}
+
+-- ---- where a module begins
+
+pub beginnings_are_carried : BeginningsAreCarried
+beginnings_are_carried g m frame tables =
+    record { frame = frame; kept = tt; rise = tt; room = omega arith; tables = tables }
+
+pub wordless_names_are_carried : WordlessNamesAreCarried
+wordless_names_are_carried g top es env name k held h m meets long ends starts there carries =
+    new_names_are_carried g top top es env name k held h m m meets long (omega (arith, ends)) (omega (arith, starts))
+    carries.room (all_alike top g.words m) there carries
 
 -- ---- homes behind others
 

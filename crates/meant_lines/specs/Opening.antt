@@ -5,8 +5,8 @@ use Rattle.occam_parser.specs.declared.tree.ValueType.{ValueType}
 use Rattle.occam_parser.specs.Lines.{Declaration, Variables, Channels}
 use Rattle.occam_parser.specs.Words.{declaration_has_words}
 use Rattle.scalar_ranges.specs.declared.scope.ScalarKind.{ScalarKind}
-use Rattle.scalar_ranges.specs.Entries.{Scalar, Entry}
-use Rattle.scalar_ranges.specs.Environments.{One, Environment, Meets}
+use Rattle.scalar_ranges.specs.Entries.{Meaning, Scalar, Entry}
+use Rattle.scalar_ranges.specs.Environments.{Held, One, Environment, Meets}
 use Rattle.scalar_ranges.specs.MoveLaws.{shape}
 use Rattle.scalar_ranges.specs.Moves.{outermost}
 use Rattle.word_arithmetic.specs.Range.{Ends}
@@ -16,15 +16,30 @@ use Rattle.program_meaning.specs.GoingWell.{IsTrueIn}
 use Rattle.program_meaning.specs.Storing.{bind, declare}
 use Rattle.line_pieces.specs.Homes.{Home, Block}
 use Rattle.line_pieces.specs.Declarations.{Frame, declared, declaration_code}
-use Rattle.placed_code.specs.StraightPieces.{Held, LeadOn}
+use Rattle.placed_code.specs.StraightPieces as pieces
+use Rattle.placed_code.specs.StraightPieces.{LeadOn}
 use Rattle.meant_lines.specs.Words.{Holds, ChangesWithin}
-use Rattle.meant_lines.specs.Carrying.{Ground, Rise, Carries}
+use Rattle.meant_lines.specs.Carrying.{Ground, HasTables, IsKept, start_of, end_of, Rise, HasFrame, Carries}
+use Rattle.meant_lines.specs.Declaring.{with_home_there}
 use Rattle.meant_lines.specs.Pushing.{AllStandOn}
 use Rattle.meant_lines.specs.Zeroing.{AreZero}
 
 -- the same ground, with the homes of a frame
 abbrev pub on_frame : Frame → Ground → Ground
 on_frame f g = record g { homes = f.homes }
+
+-- ---- where a module begins
+
+-- Memory that has the tables carries the environment that has no name yet.
+abbrev pub BeginningsAreCarried : Type 0
+BeginningsAreCarried = (g : Ground) (m : Memory) → HasFrame g m → HasTables g m → Carries g 0 [] [] m
+
+-- A name that has no word there, as a procedure, a link or the index of an `IF`, is carried with what it holds.
+abbrev pub WordlessNamesAreCarried : Type 0
+WordlessNamesAreCarried = (g : Ground) (top : ℕ) (es : List Entry) (env : Environment) (name : List ℕ) (k : Meaning)
+    (held : Held) (h : Home) (m : Memory) → Meets env es → length g.homes ≡ length es → end_of (Some h) k ≡ 0
+    → start_of (Some h) top ≡ top → IsKept g m h k held → Carries g top es env m
+    → Carries (with_home_there h g) top (add name k es) (bind name held env) m
 
 -- ---- declarations
 
@@ -40,9 +55,9 @@ HasRoomFor d end words = ⊤
 
 -- The code of a declaration leads to where memory carries the environment with its names. Words before them have not
 -- changed.
-pub record Opened (g : Ground) (f : Frame) (es : List Entry) (d : Declaration) (inner : Environment) (before : Held)
-    : Type 0 where
-  pub after : Held
+pub record Opened (g : Ground) (f : Frame) (es : List Entry) (d : Declaration) (inner : Environment)
+    (before : pieces.Held) : Type 0 where
+  pub after : pieces.Held
   pub leads : LeadOn g.footing (declaration_code es d f.top) before after
   pub carries : Carries (on_frame (declared es d f) g) (declared es d f).top (add_declaration d es) inner after.memory
   pub changes : ChangesWithin f.top g.words before.memory after.memory
@@ -50,7 +65,7 @@ pub record Opened (g : Ground) (f : Frame) (es : List Entry) (d : Declaration) (
 
 abbrev pub DeclarationsAreCarried : Type 0
 DeclarationsAreCarried = (g : Ground) (f : Frame) (es : List Entry) (env inner : Environment) (d : Declaration)
-    (h : Held) → IsTrueIn es env → IsKnownDeclaration es d → declaration_has_words d ≡ true → declare d env ≡ Some inner
+    (h : pieces.Held) → IsTrueIn es env → IsKnownDeclaration es d → declaration_has_words d ≡ true → declare d env ≡ Some inner
     → length f.homes ≡ length es → HasRoomFor d (declared es d f).top g.words → AllStandOn g (declaration_code es d f.top)
     → Carries (on_frame f g) f.top es env h.memory → Opened g f es d inner h
 

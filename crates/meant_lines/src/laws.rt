@@ -27,7 +27,7 @@ ghost use Rattle.meant_lines.specs.Pushing.{CodeStoresWithin, PartsStand};
 ghost use Rattle.meant_lines.specs.Housing.{DeclaredHomesRise, BlocksRise, MoreWordsRise};
 ghost use Rattle.meant_lines.specs.Zeroing.{ScalarsAreZeroed, ArraysAreZeroed};
 ghost use Rattle.meant_lines.specs.Opening.{DeclarationsAreCarried, BlocksAreCarried, OutermostAreCarried};
-ghost use Rattle.meant_lines.specs.Opening.{OtherTurnsAreCarried};
+ghost use Rattle.meant_lines.specs.Opening.{OtherTurnsAreCarried, BeginningsAreCarried, WordlessNamesAreCarried};
 ghost use Rattle.meant_lines.specs.Declaring.{NewNamesAreCarried, ZeroScalarsAreKept, ZeroArraysAreKept};
 
 /// Each word of the frame has its own place in memory, and the operand that names it at any workspace of the frame
@@ -201,8 +201,10 @@ pub fn new_names_are_carried()
 {}
 
 /// The code of a declaration leads to where memory carries the environment with its names, and a loop's block to where
-/// it carries the one with the index. Where a scope is left, memory still carries the outermost names.
+/// it carries the one with the index; a name that has no word is carried at once. Where a scope is left, memory still carries the outermost names.
 pub fn scopes_are_carried()
+    ensures beginnings { BeginningsAreCarried }
+    ensures wordless { WordlessNamesAreCarried }
     ensures declarations { DeclarationsAreCarried }
     ensures blocks { BlocksAreCarried }
     ensures outermost { OutermostAreCarried }

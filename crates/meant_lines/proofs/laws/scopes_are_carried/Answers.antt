@@ -13,3 +13,9 @@ returns-clause-outermost c = leaving.outermost_are_carried
 
 pub returns-clause-turns : goal.returns-clause-turns
 returns-clause-turns c = leaving.other_turns_are_carried
+
+pub returns-clause-beginnings : goal.returns-clause-beginnings
+returns-clause-beginnings c = leaving.beginnings_are_carried
+
+pub returns-clause-wordless : goal.returns-clause-wordless
+returns-clause-wordless c = leaving.wordless_names_are_carried
