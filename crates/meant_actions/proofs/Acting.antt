@@ -1,12 +1,14 @@
 -- What pieces do where they lie, and what `SKIP` and `STOP` do.
-use Rattle.std.proofs.Common.{◌≡◌, ℕ, ◌<◌, List, [], ◌∷◌, ◌++◌, length, refl, sym, subst}
+use Rattle.std.proofs.Common.{◌≡◌, ℕ, ◌+◌, ◌<◌, ◌≤◌, List, [], ◌∷◌, ◌++◌, length, refl, sym, subst, arith}
+use Rattle.module_format.specs.declared.limits.TheConstants.{MAX_DATA_WORDS}
 use Rattle.scalar_ranges.specs.Environments.{Environment}
-use Rattle.machine_state.specs.declared.instruction.Instruction.TheVariants.{Operate}
+use Rattle.machine_state.specs.Memory.{Memory}
 use Rattle.machine_state.specs.Instructions.{instruction_of, op_of}
 use Rattle.prefix_decoder.specs.declared.function.Fun.TheVariants as fun
+use Rattle.scalar_ranges.specs.Entries.{Entry}
 use Rattle.program_meaning.specs.Doing.{Doing}
 use Rattle.code_pieces.specs.declared.operations.TheConstants.{STOP_PROCESS}
-use Rattle.code_pieces.specs.Pieces.{Piece}
+use Rattle.code_pieces.specs.Pieces.{Piece, counted, word_after}
 use Rattle.placed_code.specs.StraightPieces.{Footing, Held, LeadOn}
 use Rattle.placed_code.specs.LaidCode as laid
 use Rattle.placed_code.specs.LaidCode.{LaidCode, Lie}
@@ -14,8 +16,9 @@ use Rattle.placed_code.specs.Points.{Point, point}
 use Rattle.placed_code.specs.Behaves.{Behaves, over, halts}
 use Rattle.placed_code.proofs.PiecesGo.{straight_goes}
 use Rattle.placed_code.proofs.Behaves.{steps_behave}
-use Rattle.meant_lines.specs.Carrying.{Ground}
-use Rattle.meant_actions.specs.Acting.{SkipsBehave, StopsBehave}
+use Rattle.meant_lines.specs.Carrying.{Ground, Carries}
+use Rattle.meant_lines.proofs.Operators.{first_stand, rest_stand}
+use Rattle.meant_actions.specs.Acting.{AreWithin, SkipsBehave, StopsBehave}
 
 -- what comes after straight pieces that lie there
 pub straight_behaves : (c : LaidCode) (g : Ground) {End : Environment → Point → Type 0} {t : Doing} {at to : ℕ}
@@ -32,8 +35,35 @@ lie_both c at to (p ∷ ps) qs (laid.more {middle = next} first rest) =
     let both = lie_both c next to ps qs rest in
     (both.0, laid.more first both.1, both.2)
 
+pub none_there : (c : LaidCode) (at to : ℕ) → Lie c at [] to → at ≡ to
+none_there c at to laid.none = refl
+
+-- ---- what code stores
+
+pub first_within : (g : Ground) (ps qs : List Piece) → AreWithin g (ps ++ qs) → AreWithin g ps
+first_within g ps qs all = first_stand g ps qs all
+
+pub rest_within : (g : Ground) (ps qs : List Piece) → AreWithin g (ps ++ qs) → AreWithin g qs
+rest_within g ps qs all = rest_stand g ps qs all
+
+-- a word that is stored is one of the frame
+pub temporary_within : (g : Ground) (top : ℕ) (es : List Entry) (env : Environment) (m : Memory)
+    → Carries g top es env m → counted top < g.words → top < g.words
+unfolding counted
+temporary_within g top es env m carries is =
+    let room = carries.room in
+    let few = carries.frame.few in
+    omega (arith, room, few, is)
+
+pub next_word : (t : ℕ) → t ≤ MAX_DATA_WORDS → word_after t 1 ≡ t + 1
+unfolding word_after counted
+next_word t few = omega (arith, few)
+
+-- ---- nothing is done
+
 pub skips_behave : SkipsBehave
-skips_behave c g top at to es env h ports begins laid.none = over (refl, begins.carries)
+skips_behave c g top at to es env h ports begins laid.none =
+    over (record { at = refl; carries = begins.carries; bytes = begins.bytes })
 
 pub stops_behave : StopsBehave
 unfolding instruction_of op_of

@@ -1,6 +1,11 @@
 pub mod Acting
+pub mod Bytes
+pub mod Actions
+pub mod Addressing
 pub mod Assigning
 pub mod Exchanging
+pub mod Locating
 pub mod Messages
 pub mod Sending
 pub mod Receiving
+pub mod Variables

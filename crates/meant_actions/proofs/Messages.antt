@@ -33,7 +33,7 @@ module _ (m : Memory) (place : ℕ) (v : ℤ) (inside : place + 4 ≤ length m) 
   size_three : length three ≡ length m
   size_three = length-with_byte two (place + 2) (Some (byte_worth 65536 v)) ∙ size_two
 
-  first_byte : byte_at (with_word m place (Some v)) (place + 0) ≡ Some (byte_worth 1 v)
+  pub first_byte : byte_at (with_word m place (Some v)) (place + 0) ≡ Some (byte_worth 1 v)
   unfolding with_word
   first_byte =
       let at : place + 0 ≡ place = omega arith in
@@ -43,20 +43,20 @@ module _ (m : Memory) (place : ℕ) (v : ℤ) (inside : place + 4 ≤ length m) 
       ∙ byte_at-with_byte_other one (place + 1) place (Some (byte_worth 256 v)) (omega arith)
       ∙ byte_at-with_byte m place (Some (byte_worth 1 v)) (omega (arith, inside))
 
-  second_byte : byte_at (with_word m place (Some v)) (place + 1) ≡ Some (byte_worth 256 v)
+  pub second_byte : byte_at (with_word m place (Some v)) (place + 1) ≡ Some (byte_worth 256 v)
   unfolding with_word
   second_byte =
       byte_at-with_byte_other three (place + 3) (place + 1) (Some (byte_worth 16777216 v)) (omega arith)
       ∙ byte_at-with_byte_other two (place + 2) (place + 1) (Some (byte_worth 65536 v)) (omega arith)
       ∙ byte_at-with_byte one (place + 1) (Some (byte_worth 256 v)) (omega (arith, inside, size_one))
 
-  third_byte : byte_at (with_word m place (Some v)) (place + 2) ≡ Some (byte_worth 65536 v)
+  pub third_byte : byte_at (with_word m place (Some v)) (place + 2) ≡ Some (byte_worth 65536 v)
   unfolding with_word
   third_byte =
       byte_at-with_byte_other three (place + 3) (place + 2) (Some (byte_worth 16777216 v)) (omega arith)
       ∙ byte_at-with_byte two (place + 2) (Some (byte_worth 65536 v)) (omega (arith, inside, size_two))
 
-  fourth_byte : byte_at (with_word m place (Some v)) (place + 3) ≡ Some (byte_worth 16777216 v)
+  pub fourth_byte : byte_at (with_word m place (Some v)) (place + 3) ≡ Some (byte_worth 16777216 v)
   unfolding with_word
   fourth_byte =
       byte_at-with_byte three (place + 3) (Some (byte_worth 16777216 v)) (omega (arith, inside, size_three))
@@ -85,7 +85,7 @@ module _ (p q r s : ℕ) (a : p < 256) (b : q < 256) (c : r < 256) (d : s < 256)
   joined_is : joined ≡ p + 256 * q + 65536 * r + 16777216 * s
   joined_is = omega (arith, a, b, c, d)
 
-  digits : (n : ℕ) → n ≡ p + 256 * q + 65536 * r + 16777216 * s
+  pub digits : (n : ℕ) → n ≡ p + 256 * q + 65536 * r + 16777216 * s
       → n % 256 ∷ n / 256 % 256 ∷ n / 65536 % 256 ∷ n / 16777216 % 256 ∷ [] ≡ p ∷ q ∷ r ∷ s ∷ []
   digits n is =
       let first : n % 256 ≡ p = omega (arith, is, a) in

@@ -1,4 +1,6 @@
 pub mod Acting
+pub mod Bytes
+pub mod Actions
 pub mod Assigning
 pub mod Exchanging
 pub mod Sending

@@ -1,7 +1,5 @@
 -- What the code of inputs does.
-use Rattle.std.specs.Prelude.{◌≡◌, ℕ, List, Option, None}
-use Rattle.occam_parser.specs.declared.tree.ValueType.{ValueType}
-use Rattle.occam_parser.specs.declared.tree.ValueType.TheVariants as value_type
+use Rattle.std.specs.Prelude.{ℕ, List, Option}
 use Rattle.occam_parser.specs.Lines.{Place, Input}
 use Rattle.scalar_ranges.specs.Entries.{Entry}
 use Rattle.scalar_ranges.specs.Environments.{Environment}
@@ -14,18 +12,20 @@ use Rattle.placed_code.specs.LaidCode.{LaidCode, Lie}
 use Rattle.placed_code.specs.Points.{point}
 use Rattle.placed_code.specs.Behaves.{Behaves}
 use Rattle.meant_lines.specs.Carrying.{Ground}
-use Rattle.meant_actions.specs.Acting.{Begins, EndsAt, IsScalar}
+use Rattle.meant_actions.specs.Acting.{Begins, EndsAt, AreWithin, IsVariable}
 use Rattle.meant_actions.specs.Exchanging.{IsPort, IsUndisturbed}
 
--- A message of this type is stored in a scalar of that type.
-abbrev pub ScalarsAreReceived : ValueType → Type 0
-ScalarsAreReceived type = (c : LaidCode) (g : Ground) (top at to n w : ℕ) (es : List Entry) (env : Environment)
-    (h : Held) (ports : List (Option Port)) (channel : Place) (port : Port) (name : List ℕ)
-    → Begins c g top es env h → IsUndisturbed g top es → IsPort g es env ports direction.Input channel port
-    → port.carries ≡ type → IsScalar g es name type n w
-    → Lie c at (input_code g.homes es top channel (record { name = name; subscript = None })) to
-    → Behaves c (EndsAt g top es to) (point at h)
-    (acting ports (Input channel (record { name = name; subscript = None })) env)
+-- The channel is a port, and the variable is of the type that it carries.
+pub record IsInput (g : Ground) (top : ℕ) (es : List Entry) (env : Environment) (ports : List (Option Port))
+    (channel target : Place) : Type 0 where
+  pub port : Port
+  pub is_port : IsPort g es env ports direction.Input channel port
+  pub variable : IsVariable g top es env top target.name port.carries target.subscript
 
-abbrev pub IntsAreReceived : Type 0
-IntsAreReceived = ScalarsAreReceived value_type.Int
+-- A message is asked for and stored in the variable.
+abbrev pub InputsBehave : Type 0
+InputsBehave = (c : LaidCode) (g : Ground) (top at to : ℕ) (es : List Entry) (env : Environment) (h : Held)
+    (ports : List (Option Port)) (channel target : Place) → Begins c g top es env h → IsUndisturbed g top es
+    → IsInput g top es env ports channel target → AreWithin g (input_code g.homes es top channel target)
+    → Lie c at (input_code g.homes es top channel target) to
+    → Behaves c (EndsAt g top es to) (point at h) (acting ports (Input channel target) env)

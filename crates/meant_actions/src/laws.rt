@@ -1,10 +1,12 @@
 //! The laws of what the code of actions does, each the contract of a function that does nothing.
 
 ghost use Rattle.meant_actions.specs.Acting.{SkipsBehave, StopsBehave};
-ghost use Rattle.meant_actions.specs.Assigning.{ScalarsAreAssigned};
+ghost use Rattle.meant_actions.specs.Actions.{ActionsBehave};
+ghost use Rattle.meant_actions.specs.Assigning.{AssignmentsBehave};
+ghost use Rattle.meant_actions.specs.Bytes.{BytesStay};
 ghost use Rattle.meant_actions.specs.Exchanging.{RootsAreUndisturbed};
-ghost use Rattle.meant_actions.specs.Sending.{ValuesAreSent};
-ghost use Rattle.meant_actions.specs.Receiving.{IntsAreReceived};
+ghost use Rattle.meant_actions.specs.Receiving.{InputsBehave};
+ghost use Rattle.meant_actions.specs.Sending.{OutputsBehave};
 
 /// `SKIP` leaves the environment as it is, and `STOP` halts.
 pub fn nothing_is_done()
@@ -12,10 +14,9 @@ pub fn nothing_is_done()
     ensures stops { StopsBehave }
 {}
 
-/// The code of an assignment to a scalar stores the number of the expression, and memory carries the environment after
-/// it.
-pub fn scalars_are_assigned()
-    ensures { ScalarsAreAssigned }
+/// What memory has where names are stays bytes, whatever code stores and while a process waits.
+pub fn bytes_stay()
+    ensures { BytesStay }
 {}
 
 /// In the root no name and no temporary is in the words that scheduling takes.
@@ -23,12 +24,23 @@ pub fn undisturbed_frames_carry()
     ensures { RootsAreUndisturbed }
 {}
 
-/// The code of an output whose value is at no place of its own sends the message of that value, from a temporary.
-pub fn values_are_sent()
-    ensures { ValuesAreSent }
+/// The code of an assignment stores the number of the value in the variable, and memory carries the environment after
+/// it.
+pub fn assignments_behave()
+    ensures { AssignmentsBehave }
 {}
 
-/// The code of an input into a scalar of INT asks for a message and stores the number that its four bytes are.
-pub fn ints_are_received()
-    ensures { IntsAreReceived }
+/// The code of an input asks for a message, and stores the number that its bytes are in the variable.
+pub fn inputs_behave()
+    ensures { InputsBehave }
+{}
+
+/// The code of an output sends the message of the value.
+pub fn outputs_behave()
+    ensures { OutputsBehave }
+{}
+
+/// The code of each action makes a process do what the action means.
+pub fn actions_behave()
+    ensures { ActionsBehave }
 {}

@@ -4,6 +4,6 @@
 mod laws;
 
 pub use laws::{
-    ints_are_received, nothing_is_done, scalars_are_assigned, undisturbed_frames_carry,
-    values_are_sent,
+    actions_behave, assignments_behave, bytes_stay, inputs_behave, nothing_is_done, outputs_behave,
+    undisturbed_frames_carry,
 };

@@ -1,0 +1,64 @@
+-- What the code of any action does.
+use Rattle.std.proofs.Common.{◌≡◌, ℕ, List, [], Some, sym, subst}
+use Rattle.occam_parser.specs.Lines.{Skip, Stop, Assign, Input, Output, Instance}
+use Rattle.code_pieces.specs.Pieces.{Piece, Code}
+use Rattle.line_pieces.specs.Homes.{Home}
+use Rattle.line_pieces.specs.Declarations.{facts_in}
+use Rattle.line_pieces.specs.Actions.{assign_code, input_code, output_code}
+use Rattle.placed_code.specs.LaidCode.{LaidCode, Lie}
+use Rattle.meant_lines.specs.Carrying.{Ground}
+use Rattle.meant_actions.specs.Acting.{AreWithin}
+use Rattle.meant_actions.specs.Actions.{ActionsBehave}
+use Rattle.meant_actions.proofs.Acting.{skips_behave, stops_behave}
+use Rattle.meant_actions.proofs.Assigning.{assignments_behave}
+use Rattle.meant_actions.proofs.Receiving.{inputs_behave}
+use Rattle.meant_actions.proofs.Sending.{outputs_behave}
+
+same_code : (a b : Code) → Some a ≡ Some b → a ≡ b
+same_code a b is = cc
+
+-- the code of an action is this one
+lies_as : (c : LaidCode) (at to : ℕ) (a b : Code) → Some a ≡ Some b → Lie c at b.pieces to → Lie c at a.pieces to
+lies_as c at to a b is lie = subst (λ (k : Code). Lie c at k.pieces to) (sym (same_code a b is)) lie
+
+within_as : (g : Ground) (a b : Code) → Some a ≡ Some b → AreWithin g b.pieces → AreWithin g a.pieces
+within_as g a b is all = subst (λ (k : Code). AreWithin g k.pieces) (sym (same_code a b is)) all
+
+-- by the homes of the ground
+module _ (c : LaidCode) (g : Ground) (at to : ℕ) (hs : List Home) (homes : hs ≡ g.homes)
+    (ps : List Home → List Piece) where
+  lies_there : Lie c at (ps hs) to → Lie c at (ps g.homes) to
+  lies_there lie = subst (λ (x : List Home). Lie c at (ps x) to) homes lie
+
+  within_there : AreWithin g (ps hs) → AreWithin g (ps g.homes)
+  within_there all = subst (λ (x : List Home). AreWithin g (ps x)) homes all
+
+pub actions_behave : ActionsBehave
+actions_behave c g f at to label es env h ports Skip code homes begins undisturbed ready is all lie inside =
+    skips_behave c g f.top at to es env h ports begins
+    (lies_as c at to (record { pieces = []; labels = label }) code is lie)
+actions_behave c g f at to label es env h ports Stop code homes begins undisturbed ready is all lie inside =
+    stops_behave c g f.top at to label es env h ports (facts_in f es) (lies_as c at to _ code is lie) inside
+actions_behave c g f at to label es env h ports (Assign target value) code homes begins undisturbed ready is all lie
+    inside =
+    let ps = λ (hs : List Home). assign_code hs es f.top target value in
+    let a : Code = record { pieces = assign_code f.homes es f.top target value; labels = label } in
+    assignments_behave c g f.top at to es env h ports target value begins ready
+    (within_there c g at to f.homes homes ps (within_as g a code is all))
+    (lies_there c g at to f.homes homes ps (lies_as c at to a code is lie))
+actions_behave c g f at to label es env h ports (Input channel target) code homes begins undisturbed ready is all lie
+    inside =
+    let ps = λ (hs : List Home). input_code hs es f.top channel target in
+    let a : Code = record { pieces = input_code f.homes es f.top channel target; labels = label } in
+    inputs_behave c g f.top at to es env h ports channel target begins undisturbed ready
+    (within_there c g at to f.homes homes ps (within_as g a code is all))
+    (lies_there c g at to f.homes homes ps (lies_as c at to a code is lie))
+actions_behave c g f at to label es env h ports (Output channel value) code homes begins undisturbed ready is all lie
+    inside =
+    let ps = λ (hs : List Home). output_code hs es f.top channel value in
+    let a : Code = record { pieces = output_code f.homes es f.top channel value; labels = label } in
+    outputs_behave c g f.top at to es env h ports channel value begins undisturbed ready
+    (within_there c g at to f.homes homes ps (within_as g a code is all))
+    (lies_there c g at to f.homes homes ps (lies_as c at to a code is lie))
+actions_behave c g f at to label es env h ports (Instance name actuals) code homes begins undisturbed ready is all lie
+    inside = absurd ready
