@@ -48,7 +48,7 @@ use Rattle.meant_actions.proofs.Addressing.{elements_have_places}
 use Rattle.meant_actions.proofs.Bytes.{free_stays, word_stays}
 use Rattle.meant_actions.proofs.Messages.{first_byte, second_byte, third_byte, fourth_byte}
 use Rattle.meant_actions.proofs.Variables.{whole, element, element_place, element_word, with_element, element_stays}
-use Rattle.meant_actions.proofs.Variables.{scalar_target, scalar_below, element_below, element_target_is, IsPut}
+use Rattle.meant_actions.proofs.Variables.{scalar_target, scalar_below, element_below, element_target_is, LeavesStored}
 use Rattle.meant_actions.proofs.Variables.{scalar_put, element_put}
 
 -- ---- a store
@@ -304,7 +304,7 @@ module _ (c : LaidCode) (g : Ground) (top at to : ℕ) (es : List Entry) (env : 
 
   -- the number goes to an element
   element_ends : (target : Place) (type : ValueType) (w i : ℕ) (ps : List Piece) (first : FirstPushed)
-      → StoresIn g ps top type w i v first.after → IsPut g top es env target v (with_element type w i v)
+      → StoresIn g ps top type w i v first.after → LeavesStored g top es env target v (with_element type w i v)
       → Lie c at (code ++ ps) to
       → Behaves c (EndsAt g top es to) (point at h) (acting ports (Assign target value) env)
   element_ends target type w i ps first store left lie =

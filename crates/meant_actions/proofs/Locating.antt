@@ -29,13 +29,13 @@ use Rattle.meant_actions.proofs.Variables.{element_place, element_word, scalar_b
 -- ---- room
 
 -- These bytes are beside the words that scheduling takes, and before this word.
-pub record IsBeside (depth top place count : ℕ) : Type 0 where
+pub record IsBesideScheduling (depth top place count : ℕ) : Type 0 where
   pub beside : (place + count ≤ 4 * depth) ⊎ (word_place depth ≤ place)
   pub before : place + count ≤ word_place top
 
 -- some of the words of a name
 name_beside : (depth top w words place count : ℕ) → (w + words + BASE ≤ depth) ⊎ (depth ≤ w) → w + words ≤ top
-    → word_place w ≤ place → place + count ≤ word_place (w + words) → IsBeside depth top place count
+    → word_place w ≤ place → place + count ≤ word_place (w + words) → IsBesideScheduling depth top place count
 name_beside depth top w words place count apart ends low high = record {
   beside = by apart;
   before = omega (arith, ends, high);
@@ -46,7 +46,7 @@ name_beside depth top w words place count apart ends low high = record {
     by (inr above) = inr (omega (arith, above, low))
 
 -- what is beside them is none of them
-not_scheduling : (depth top place count j : ℕ) → IsBeside depth top place count → j < count
+not_scheduling : (depth top place count j : ℕ) → IsBesideScheduling depth top place count → j < count
     → IsScheduling depth (place + j) → ⊥
 not_scheduling depth top place count j room less is = by room.beside
   where
@@ -55,14 +55,14 @@ not_scheduling depth top place count j room less is = by room.beside
     by (inr above) = let high = is.1 in absurd (omega (arith, above, high))
 
 -- so it is bytes
-pub bytes_there : (depth top place count : ℕ) (m : Memory) → IsBeside depth top place count → HasBytes depth top m
-    → (j byte : ℕ) → j < count → byte_at m (place + j) ≡ Some byte → byte < 256
+pub bytes_there : (depth top place count : ℕ) (m : Memory) → IsBesideScheduling depth top place count
+    → HasBytes depth top m → (j byte : ℕ) → j < count → byte_at m (place + j) ≡ Some byte → byte < 256
 bytes_there depth top place count m room has j byte less is =
     let ends = room.before in
     has (place + j) byte (omega (arith, less, ends)) (not_scheduling depth top place count j room less) is
 
-pub fewer_beside : (depth top place count fewer : ℕ) → fewer ≤ count → IsBeside depth top place count
-    → IsBeside depth top place fewer
+pub fewer_beside : (depth top place count fewer : ℕ) → fewer ≤ count → IsBesideScheduling depth top place count
+    → IsBesideScheduling depth top place fewer
 fewer_beside depth top place count fewer less room = record {
   beside = by room.beside;
   before = let ends = room.before in omega (arith, less, ends);
@@ -76,7 +76,7 @@ fewer_beside depth top place count fewer less room = record {
 module _ (g : Ground) (top : ℕ) (es : List Entry) (env : Environment) (name : List ℕ) (type : ValueType)
     (m : Memory) (undisturbed : IsUndisturbed g top es) (carries : Carries g top es env m) where
   -- the word of a scalar
-  pub scalar_beside : (n w : ℕ) → IsScalar g es name type n w → IsBeside g.footing.depth top (word_place w) 4
+  pub scalar_beside : (n w : ℕ) → IsScalar g es name type n w → IsBesideScheduling g.footing.depth top (word_place w) 4
   scalar_beside n w scalar =
       name_beside g.footing.depth top w 1 (word_place w) 4
       (undisturbed.names name (Scalar scalar.kind type scalar.range) w scalar.means scalar.at)
@@ -90,7 +90,7 @@ module _ (g : Ground) (top : ℕ) (es : List Entry) (env : Environment) (name : 
 
   -- an element of an array
   pub element_beside : (size n w i : ℕ) → IsInWords g es name type size n w → i < size
-      → IsBeside g.footing.depth top (element_place type w i) (message_length type)
+      → IsBesideScheduling g.footing.depth top (element_place type w i) (message_length type)
   element_beside size n w i array less =
       let within = within_words type w i size less in
       name_beside g.footing.depth top w (words_for type size) (element_place type w i) (message_length type)
@@ -104,7 +104,7 @@ pub record IsLocated (g : Ground) (top : ℕ) (ps : List Piece) (place count : �
   pub a : ℕ
   pub addressed : Addressed g ps top a false h
   pub is : place_of a ≡ place
-  pub room : IsBeside g.footing.depth top place count
+  pub room : IsBesideScheduling g.footing.depth top place count
 
 module _ (g : Ground) (top : ℕ) (es : List Entry) (env : Environment) (name : List ℕ) (type : ValueType) (h : Held)
     (undisturbed : IsUndisturbed g top es) (carries : Carries g top es env h.memory) where

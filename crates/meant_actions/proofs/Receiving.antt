@@ -56,7 +56,7 @@ use Rattle.meant_actions.proofs.Locating.{IsLocated, scalar_located, known_locat
 use Rattle.meant_actions.proofs.Locating.{fewer_beside}
 use Rattle.meant_actions.proofs.Messages.{sent_back, word_over, message_there}
 use Rattle.meant_actions.proofs.Variables.{whole, element, element_place, with_element, element_stays, scalar_target}
-use Rattle.meant_actions.proofs.Variables.{scalar_below, element_target_is, IsPut, scalar_put, element_put}
+use Rattle.meant_actions.proofs.Variables.{scalar_below, element_target_is, LeavesStored, scalar_put, element_put}
 
 -- the length of a message is what code pushes
 length_is : (type : ValueType) → address (length_of type) ≡ message_length type
@@ -234,9 +234,9 @@ word_again depth place v bytes old new long room came =
 
 -- ---- numbers that came
 
-short : (type : ValueType) → message_length type ≤ 4
-short value_type.Int = omega arith
-short value_type.Byte = omega arith
+four_at_most : (type : ValueType) → message_length type ≤ 4
+four_at_most value_type.Int = omega arith
+four_at_most value_type.Byte = omega arith
 
 of_type_fits : (type : ValueType) (v : ℤ) → IsOfType type v → FitsSigned w32 v
 of_type_fits value_type.Int v typed = typed
@@ -314,7 +314,7 @@ module _ (c : LaidCode) (g : Ground) (top at to : ℕ) (es : List Entry) (env : 
 
   -- what is left where a number was stored
   ends_here : (target : Place) (v : ℤ) (q : Point) (change : Memory → Memory) (old : Memory) → q.at ≡ to
-      → (left : IsPut g top es env target v change) → Carries g top es env old
+      → (left : LeavesStored g top es env target v change) → Carries g top es env old
       → HasBytes g.footing.depth top (change old)
       → OnlySchedulingChanges g.footing.depth (change old) q.held.memory → EndsAt g top es to left.after q
   ends_here target v q change old is left carries has changes = record {
@@ -325,7 +325,7 @@ module _ (c : LaidCode) (g : Ground) (top at to : ℕ) (es : List Entry) (env : 
 
   -- the message is stored where it came to
   ends_with : (target : Place) (bytes : List ℕ) (q : Point) (change : Memory → Memory) (old : Memory) → q.at ≡ to
-      → IsPut g top es env target (received port.carries bytes) change → Carries g top es env old
+      → LeavesStored g top es env target (received port.carries bytes) change → Carries g top es env old
       → HasBytes g.footing.depth top (change old)
       → OnlySchedulingChanges g.footing.depth (change old) q.held.memory
       → Behaves c (EndsAt g top es to) q (goes_on target bytes)
@@ -371,7 +371,7 @@ module _ (c : LaidCode) (g : Ground) (top at to : ℕ) (es : List Entry) (env : 
         → Behaves c (EndsAt g top es to) (point at h) (acting ports (Input channel (whole name)) env)
     int_asks same lie =
         let t : Target = OwnWord value_type.Int w in
-        asks_for (whole name) t (word_place w) 4 lie located (short port.carries)
+        asks_for (whole name) t (word_place w) 4 lie located (four_at_most port.carries)
         (λ middle bytes q rest long all is came.
         let v = received port.carries bytes in
         ends_with (whole name) bytes q (with_frame_word w v) old (is ∙ none_there c middle to rest)
@@ -424,7 +424,7 @@ module _ (c : LaidCode) (g : Ground) (top at to : ℕ) (es : List Entry) (env : 
         ++ (points w ∷ operates LOAD_BYTE ∷ stores w ∷ [])) to
         → Behaves c (EndsAt g top es to) (point at h) (acting ports (Input channel (whole name)) env)
     byte_asks same lie =
-        asks_for (whole name) (OwnWord value_type.Byte w) (word_place w) 4 lie located (short port.carries)
+        asks_for (whole name) (OwnWord value_type.Byte w) (word_place w) 4 lie located (four_at_most port.carries)
         (λ middle bytes q rest long all is came.
         byte_ends middle bytes q same rest (long ∙ ap message_length same) all is came)
 

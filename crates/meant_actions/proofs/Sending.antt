@@ -56,7 +56,7 @@ use Rattle.meant_actions.specs.Sending.{IsElementOf, HasSource, OutputsBehave}
 use Rattle.meant_actions.proofs.Acting.{straight_behaves, lie_both, first_within, rest_within, temporary_within}
 use Rattle.meant_actions.proofs.Bytes.{free_stays, waiting_stays, message_in_word, message_in_byte}
 use Rattle.meant_actions.proofs.Exchanging.{link_pushed}
-use Rattle.meant_actions.proofs.Locating.{IsBeside, IsLocated, bytes_there, scalar_located, known_located}
+use Rattle.meant_actions.proofs.Locating.{IsBesideScheduling, IsLocated, bytes_there, scalar_located, known_located}
 use Rattle.meant_actions.proofs.Locating.{other_located, fewer_beside}
 use Rattle.meant_actions.proofs.Messages.{message_there}
 use Rattle.meant_actions.proofs.Variables.{element_place, element_target_is, array_holds}
@@ -201,7 +201,7 @@ module _ (g : Ground) (top : ℕ) (es : List Entry) (env : Environment) (name : 
 
   -- the message of a scalar is in its word
   pub scalar_message : (type : ValueType) (n w : ℕ) → IsScalar g es name type n w → one_of (held_in name env) ≡ Some v
-      → IsBeside g.footing.depth top (word_place w) 4 → Has m (word_place w) (message_of type v)
+      → IsBesideScheduling g.footing.depth top (word_place w) 4 → Has m (word_place w) (message_of type v)
   scalar_message type n w scalar is room =
       message_in_word m (word_place w) v (bytes_there g.footing.depth top (word_place w) 4 m room bytes) type
       (word_holds w (held_in name env) is
@@ -210,8 +210,8 @@ module _ (g : Ground) (top : ℕ) (es : List Entry) (env : Environment) (name : 
   -- ---- an element
 
   element_message_by : (type : ValueType) (w i : ℕ)
-      → IsBeside g.footing.depth top (element_place type w i) (message_length type) → HoldsElement type m w i v
-      → Has m (element_place type w i) (message_of type v)
+      → IsBesideScheduling g.footing.depth top (element_place type w i) (message_length type)
+      → HoldsElement type m w i v → Has m (element_place type w i) (message_of type v)
   element_message_by value_type.Int w i room holds =
       message_in_word m (word_place (w + i)) v
       (bytes_there g.footing.depth top (word_place (w + i)) 4 m room bytes) value_type.Int holds
@@ -226,7 +226,7 @@ module _ (g : Ground) (top : ℕ) (es : List Entry) (env : Environment) (name : 
   -- the message of an element is where it is
   pub element_message : (type : ValueType) (size n w i : ℕ) → IsInWords g es name type size n w
       → element_of (held_in name env) (pos i) ≡ Some v
-      → IsBeside g.footing.depth top (element_place type w i) (message_length type)
+      → IsBesideScheduling g.footing.depth top (element_place type w i) (message_length type)
       → Has m (element_place type w i) (message_of type v)
   element_message type size n w i array is room =
       let found = array_holds g es env name type size n w meets array in
@@ -357,7 +357,8 @@ module _ (c : LaidCode) (g : Ground) (top at to : ℕ) (es : List Entry) (env : 
         let x = scalar_located g top es env name port.carries h undisturbed begins.carries n.0 w scalar in
         sends_from (Alone (Named name)) (points w ∷ []) (word_place w) 4 is x (short port.carries v)
         (λ m carries has.
-        scalar_message g top es env name v m undisturbed begins.meets carries has port.carries n.0 w scalar is x.room) lie
+        scalar_message g top es env name v m undisturbed begins.meets carries has port.carries n.0 w scalar is x.room)
+        lie
 
     named_sends : (o : Option Home) (k : Option Meaning) → home_of g.homes es name ≡ o → meaning_in name es ≡ k
         → type_of es (Alone (Named name)) ≡ Ok (type_of_values port.carries)

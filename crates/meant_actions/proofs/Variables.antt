@@ -174,7 +174,7 @@ byte_is : (b : ℕ) → b < 256 → byte_worth 1 (pos b) ≡ b
 byte_is b small = omega (arith, ints, small)
 
 -- The environment after a number was stored in a place, and memory that carries it.
-pub record IsPut (g : Ground) (top : ℕ) (es : List Entry) (env : Environment) (p : Place) (v : ℤ)
+pub record LeavesStored (g : Ground) (top : ℕ) (es : List Entry) (env : Environment) (p : Place) (v : ℤ)
     (change : Memory → Memory) : Type 0 where
   pub after : Environment
   pub is : stored env p v ≡ Some after
@@ -182,7 +182,7 @@ pub record IsPut (g : Ground) (top : ℕ) (es : List Entry) (env : Environment) 
 
 pub scalar_put : (g : Ground) (top : ℕ) (es : List Entry) (env : Environment) (name : List ℕ) (type : ValueType)
     (n w : ℕ) (v : ℤ) → Meets env es → IsScalar g es name type n w → FitsSigned w32 v
-    → IsPut g top es env (whole name) v (with_frame_word w v)
+    → LeavesStored g top es env (whole name) v (with_frame_word w v)
 scalar_put g top es env name type n w v meets scalar fits = record {
   after = put n (One v) env;
   is = scalars_stored es env name scalar.kind type scalar.range n v meets scalar.means scalar.number;
@@ -216,7 +216,7 @@ put_both n env a b h number held = λ i. both_some (number i) (held i) (λ n h. 
 pub element_put : (g : Ground) (top : ℕ) (es : List Entry) (env : Environment) (name : List ℕ) (e : Expression)
     (type : ValueType) (size n w i : ℕ) (v : ℤ) → Meets env es → IsInWords g es name type size n w
     → number_of env e ≡ Some (pos i) → i < size → IsOfType type v
-    → IsPut g top es env (element name e) v (with_element type w i v)
+    → LeavesStored g top es env (element name e) v (with_element type w i v)
 element_put g top es env name e type size n w i v meets array is less typed =
     let held = array_holds g es env name type size n w meets array in
     let long = held.2 in

@@ -86,14 +86,15 @@ pub record IsScalar (g : Ground) (es : List Entry) (name : List ℕ) (type : Val
   pub at : home_of g.homes es name ≡ Some (Word w)
 
 -- It is that of an array, which is in the words from this one on.
-pub record IsInWords (g : Ground) (es : List Entry) (name : List ℕ) (type : ValueType) (size n w : ℕ) : Type 0 where
+pub record IsInWords (g : Ground) (es : List Entry) (name : List ℕ) (type : ValueType) (size n w : ℕ)
+    : Type 0 where
   pub kind : ArrayKind
   pub range : Ends
   pub means : meaning_in name es ≡ Some (Array kind type (Some size) range)
   pub number : number_in name es ≡ Some n
   pub at : home_of g.homes es name ≡ Some (Word w)
 
--- A name, and a subscript that may follow it, are a scalar or an element of an array, where the words from t on are free.
+-- A name, and a subscript that may follow it, are a scalar or an element of an array. The words from t on are free.
 pub data IsVariable (g : Ground) (top : ℕ) (es : List Entry) (env : Environment) (t : ℕ) (name : List ℕ)
     (type : ValueType) : Option Expression → Type 0 where
   whole_scalar : {n w : ℕ} → IsScalar g es name type n w → IsVariable g top es env t name type None
