@@ -163,7 +163,7 @@ module _ (c : LaidCode) (g : Ground) (top to : ℕ) (es : List Entry) (env : Env
 -- ---- what is where a value is already
 
 -- types whose values have the same type are the same
-same_types : (a b : ValueType) → ◌≡◌ {A = Result ExprType ℕ} (Ok (type_of_values a)) (Ok (type_of_values b)) → a ≡ b
+pub same_types : (a b : ValueType) → ◌≡◌ {A = Result ExprType ℕ} (Ok (type_of_values a)) (Ok (type_of_values b)) → a ≡ b
 same_types value_type.Int value_type.Int is = refl
 same_types value_type.Int value_type.Byte is = absurd (cc is)
 same_types value_type.Byte value_type.Int is = absurd (cc is)

@@ -1,6 +1,7 @@
 pub mod Acting
 pub mod Bytes
 pub mod Actions
+pub mod Checked
 pub mod Assigning
 pub mod Exchanging
 pub mod Sending

@@ -3,6 +3,7 @@
 ghost use Rattle.meant_actions.specs.Acting.{SkipsBehave, StopsBehave};
 ghost use Rattle.meant_actions.specs.Actions.{ActionsBehave};
 ghost use Rattle.meant_actions.specs.Assigning.{AssignmentsBehave};
+ghost use Rattle.meant_actions.specs.Checked.{CheckedActionsAreReady};
 ghost use Rattle.meant_actions.specs.Bytes.{BytesStay};
 ghost use Rattle.meant_actions.specs.Exchanging.{RootsAreUndisturbed};
 ghost use Rattle.meant_actions.specs.Receiving.{InputsBehave};
@@ -43,4 +44,9 @@ pub fn outputs_behave()
 /// The code of each action makes a process do what the action means.
 pub fn actions_behave()
     ensures { ActionsBehave }
+{}
+
+/// An action that breaks no rule is ready, where variables have words of their own and its channel is a port.
+pub fn checked_actions_are_ready()
+    ensures { CheckedActionsAreReady }
 {}
