@@ -40,10 +40,13 @@ use Rattle.code_pieces.specs.Pieces.{word_after}
 use Rattle.line_pieces.specs.Actions.{carried}
 use Rattle.line_pieces.specs.Expressions.{offset_of, or_zero}
 use Rattle.meant_lines.specs.Carrying.{Ground}
+use Rattle.meant_lines.specs.ExpressionLaws as lines
+use Rattle.meant_lines.specs.ExpressionLaws.{IsChecked}
 use Rattle.meant_lines.specs.Pushing.{IsCounted}
+use Rattle.meant_lines.proofs.Expressions.{numbers_are_pushed, subscripts_are_pushed}
 use Rattle.meant_actions.specs.Acting.{IsSubscript, IsVariable, whole_scalar, array_element}
 use Rattle.meant_actions.specs.Assigning.{IsAssignment}
-use Rattle.meant_actions.specs.Checked.{IsFitted, ExpressionsPush, HasVariables, CheckedActionsAreReady}
+use Rattle.meant_actions.specs.Checked.{HasVariables, CheckedActionsAreReady}
 use Rattle.meant_actions.specs.Exchanging.{IsPort}
 use Rattle.meant_actions.specs.Receiving.{IsInput}
 use Rattle.meant_actions.specs.Sending.{IsElementOf, IsOutput, HasSource}
@@ -149,7 +152,11 @@ channel_carries None subscripted type is = absurd (cc is)
 -- ---- subscripts
 
 module _ (g : Ground) (top : ℕ) (es : List Entry) (env : Environment) (ports : List (Option Port))
-    (names : HasVariables g es env) (push : ExpressionsPush g top es env) where
+    (names : HasVariables g es env) where
+  -- the words from t on are free
+  free_from : (t : ℕ) → top ≤ t → IsCounted t → lines.IsReady top es env t
+  free_from t low few = record { holds = names.holds; free = low; counted = few }
+
   subscript_by : (t : ℕ) (e : Expression) (range : Ends) (size : ℕ) (v : ℤ) → top ≤ t → IsCounted t
       → IsFit (wanted.Value types.Int) es e types.Int range → is_subscript size range ≡ true → has_words e ≡ true
       → number_of env e ≡ Some v → InRange range v → (i : ℕ) × IsSubscript g top es env t size e i
@@ -158,10 +165,11 @@ module _ (g : Ground) (top : ℕ) (es : List Entry) (env : Environment) (ports :
       let high = within.to_hi in
       let below = parts.1 in
       let less : i < size = omega (arith, ints, below, high) in
-      let sound : IsFitted es e types.Int =
+      let sound : IsChecked es e types.Int =
       record { range = range; type_is = fit.type_is; range_is = fit.range_is; literals = words } in
-      let both = push.numbers t e types.Int (pos i) low few sound is in
-      let first = push.subscripts t e (pos i) (pos i) (counted_from 0 (suc i)) low few sound is
+      let both = numbers_are_pushed g top t es env e types.Int (pos i) (free_from t low few) sound is in
+      let first = subscripts_are_pushed.pushed g top t es env e (pos i) (pos i) (counted_from 0 (suc i))
+      (free_from t low few) sound is
       (counted_there 0 (suc i) i (omega arith) ∙ ap (λ (n : ℕ). Some (pos n)) (none_before i)) in (
         i,
         record {
@@ -280,9 +288,10 @@ module _ (g : Ground) (top : ℕ) (es : List Entry) (env : Environment) (ports :
       let v = some_and (InRange range) (number_of env value)
       (lies found.0 type range (number_of env value) (truth_of env value) found.1
       (fit_has wanted.Anything es env value type range names.holds.meets fit)) in
-      let sound : IsFitted es value type =
+      let sound : IsChecked es value type =
       record { range = range; type_is = fit.type_is; range_is = fit.range_is; literals = words } in
-      let pushed = push.numbers top value type v.0 (omega arith) (omega (arith, few)) sound v.1 in
+      let pushed = numbers_are_pushed g top top es env value type v.0
+      (free_from top (omega arith) (omega (arith, few))) sound v.1 in
       record {
         type = found.0;
         number = v.0;
@@ -360,9 +369,10 @@ module _ (g : Ground) (top : ℕ) (es : List Entry) (env : Environment) (ports :
       let v = some_and (InRange range) (number_of env value)
       (lies port.carries type range (number_of env value) (truth_of env value) same
       (fit_has wanted.Anything es env value type range names.holds.meets fit)) in
-      let sound : IsFitted es value type =
+      let sound : IsChecked es value type =
       record { range = range; type_is = fit.type_is; range_is = fit.range_is; literals = words } in
-      let pushed = push.numbers top value type v.0 (omega arith) (omega (arith, few)) sound v.1 in
+      let pushed = numbers_are_pushed g top top es env value type v.0
+      (free_from top (omega arith) (omega (arith, few))) sound v.1 in
       record {
         port = port;
         is_port = is_port;
@@ -373,19 +383,19 @@ module _ (g : Ground) (top : ℕ) (es : List Entry) (env : Environment) (ports :
       }
 
 pub checked_actions_are_ready : CheckedActionsAreReady
-checked_actions_are_ready g top es env ports signatures Skip few names push port holds words sequential = tt
-checked_actions_are_ready g top es env ports signatures Stop few names push port holds words sequential = tt
-checked_actions_are_ready g top es env ports signatures (Assign target value) few names push port holds words
+checked_actions_are_ready g top es env ports signatures Skip few names port holds words sequential = tt
+checked_actions_are_ready g top es env ports signatures Stop few names port holds words sequential = tt
+checked_actions_are_ready g top es env ports signatures (Assign target value) few names port holds words
     sequential =
     let parts = and_parts (place_has_words target) (has_words value) words in
-    assignment_ready g top es env ports names push target value holds.0 holds.1 few holds.2 holds.3 parts.0 parts.1
-checked_actions_are_ready g top es env ports signatures (Input channel target) few names push port holds words
+    assignment_ready g top es env ports names target value holds.0 holds.1 few holds.2 holds.3 parts.0 parts.1
+checked_actions_are_ready g top es env ports signatures (Input channel target) few names port holds words
     sequential =
     let parts = and_parts (place_has_words channel) (place_has_words target) words in
-    input_ready g top es env ports names push channel target holds.0 port.0 few port.1 holds.1 holds.2 parts.1
-checked_actions_are_ready g top es env ports signatures (Output channel value) few names push port holds words
+    input_ready g top es env ports names channel target holds.0 port.0 few port.1 holds.1 holds.2 parts.1
+checked_actions_are_ready g top es env ports signatures (Output channel value) few names port holds words
     sequential =
     let parts = and_parts (place_has_words channel) (has_words value) words in
-    output_ready g top es env ports names push channel value holds.0 holds.1 port.0 few port.1 holds.2 holds.3 parts.1
-checked_actions_are_ready g top es env ports signatures (Instance name actuals) few names push port holds words
+    output_ready g top es env ports names channel value holds.0 holds.1 port.0 few port.1 holds.2 holds.3 parts.1
+checked_actions_are_ready g top es env ports signatures (Instance name actuals) few names port holds words
     sequential = absurd sequential
