@@ -10,3 +10,4 @@ pub mod Messages
 pub mod Sending
 pub mod Receiving
 pub mod Variables
+pub mod OwnWords

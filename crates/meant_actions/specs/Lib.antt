@@ -6,3 +6,4 @@ pub mod Assigning
 pub mod Exchanging
 pub mod Sending
 pub mod Receiving
+pub mod OwnWords
