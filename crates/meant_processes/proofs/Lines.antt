@@ -1,0 +1,116 @@
+-- The code of the actions that are reached behaves, where each of them has what it needs.
+use Rattle.std.proofs.Common.{◌≡◌, ℕ, ◌+◌, ◌<◌, ℤ, Bool, true, List, [], ◌∷◌, length, Some, refl, sym, subst, arith}
+use Rattle.occam_parser.specs.Lines.{Action, Assign, Input, Instance, Output, Skip, Stop}
+use Rattle.occam_parser.specs.Blocks.{Act, Does}
+use Rattle.occam_parser.specs.Words.{action_has_words}
+use Rattle.usage_checks.specs.declared.channel_rules.Position.{Position}
+use Rattle.usage_checks.specs.Reaching.{AProcess, Reaches}
+use Rattle.code_generator.specs.Processes.{Site}
+use Rattle.scalar_ranges.specs.Entries.{Entry}
+use Rattle.scalar_ranges.specs.Environments.{Environment}
+use Rattle.program_meaning.specs.Sequential.{IsSequentialAction}
+use Rattle.program_meaning.specs.Doing.{acting}
+use Rattle.code_pieces.specs.declared.operations.TheConstants.{STOP_PROCESS}
+use Rattle.code_pieces.specs.Pieces.{Code, Row, operates}
+use Rattle.line_pieces.specs.Actions.{action_code, assign_code, input_code, output_code}
+use Rattle.line_pieces.specs.Declarations.{Frame, facts_in}
+use Rattle.placed_code.specs.LaidCode.{LaidCode, Lie}
+use Rattle.placed_code.specs.Behaves.{Behaves, any, over}
+use Rattle.placed_code.specs.Points.{point}
+use Rattle.placed_code.specs.StraightPieces.{Held}
+use Rattle.meant_actions.proofs.Actions.{actions_behave}
+use Rattle.meant_actions.proofs.Exchanging.{roots_are_undisturbed}
+use Rattle.meant_code.proofs.StraightLines.{assign_is, input_is, output_is}
+use Rattle.meant_processes.specs.Actions.{ActionsAreReady, ReadyLinesBehave}
+use Rattle.meant_processes.specs.Lying.{ComesTo, LieApart}
+use Rattle.meant_processes.specs.Places.{AllFit, CarriedAt, IsPlaced, Program, ground, standing}
+use Rattle.meant_processes.proofs.Behaving.{goes_on_behind}
+use Rattle.meant_processes.proofs.CodeParts.{written_is}
+use Rattle.meant_processes.proofs.Lying.{straight_lie, stop_lies}
+
+-- the code of an action lies as ever: no two rows are in it
+action_lies : (c : LaidCode) (at_row : Bool) (at to : ℕ) (f : Frame) (es : List Entry) (label : ℕ) (action : Action)
+    (code : Code) → action_code f es label action ≡ Some code → LieApart c at_row at code.pieces to
+    → Lie c at code.pieces to
+action_lies c at_row at to f es label Skip code is lie =
+    subst (λ ps. Lie c at ps to) (sym (written_is [] label code is))
+    (straight_lie c at_row at to [] tt (subst (λ ps. LieApart c at_row at ps to) (written_is [] label code is) lie))
+action_lies c at_row at to f es label Stop code is lie =
+    let ps = operates STOP_PROCESS ∷ Row label (facts_in f es) ∷ [] in
+    let same = written_is ps (label + 1) code is in
+    subst (λ qs. Lie c at qs to) (sym same)
+    (stop_lies c at_row at to label (facts_in f es) (subst (λ qs. LieApart c at_row at qs to) same lie))
+action_lies c at_row at to f es label (Assign target value) code is lie =
+    let ps = assign_code f.homes es f.top target value in
+    let same = written_is ps label code is in
+    subst (λ qs. Lie c at qs to) (sym same)
+    (straight_lie c at_row at to ps (assign_is f.homes es f.top target value)
+    (subst (λ qs. LieApart c at_row at qs to) same lie))
+action_lies c at_row at to f es label (Input channel target) code is lie =
+    let ps = input_code f.homes es f.top channel target in
+    let same = written_is ps label code is in
+    subst (λ qs. Lie c at qs to) (sym same)
+    (straight_lie c at_row at to ps (input_is f.homes es f.top channel target)
+    (subst (λ qs. LieApart c at_row at qs to) same lie))
+action_lies c at_row at to f es label (Output channel value) code is lie =
+    let ps = output_code f.homes es f.top channel value in
+    let same = written_is ps label code is in
+    subst (λ qs. Lie c at qs to) (sym same)
+    (straight_lie c at_row at to ps (output_is f.homes es f.top channel value)
+    (subst (λ qs. LieApart c at_row at qs to) same lie))
+action_lies c at_row at to f es label (Instance name actuals) code is lie = absurd (cc is)
+
+-- an action that is no instance
+action_behaves : (p : Program) → p.code.footing.depth ≡ 0 → (position : Position) (first line : ℕ) (action : Action)
+    (s : Site) (turns : ℕ → ℤ) (env : Environment) (c : Code)
+    → Reaches p.items (standing p position) (AProcess first (Does line (Act action))) s.known → IsPlaced p s env
+    → IsSequentialAction action → action_has_words action ≡ true
+    → action_code s.frame s.known.entries s.label action ≡ Some c → AllFit p c.pieces → ActionsAreReady p
+    → (at_row : Bool) (at to : ℕ) (h : Held) → LieApart p.code at_row at c.pieces to → to < length p.code.code
+    → CarriedAt p s turns env h.memory
+    → Behaves p.code (ComesTo to (CarriedAt p s turns)) (point at h) (acting p.ports action env)
+action_behaves p root position first line action s turns env c reached there sequential words is fit ready at_row at to
+    h lie inside begins =
+    let g = ground p s.frame.homes turns in
+    let few = begins.carries.frame.few in
+    let room = begins.carries.room in
+    goes_on_behind p.code
+    (actions_behave p.code g s.frame at to s.label s.known.entries env h p.ports action c refl
+    (record {
+      footing = refl;
+      meets = there.holds.meets;
+      carries = begins.carries;
+      bytes = begins.bytes;
+    }) (roots_are_undisturbed g s.frame.top s.known.entries root)
+    (ready position first line action s turns env h.memory reached there sequential words (omega (arith, few, room))
+    begins) is fit (action_lies p.code at_row at to s.frame s.known.entries s.label action c is lie) inside)
+    (λ e q ends. over (ends.at, record { carries = ends.carries; bytes = ends.bytes }))
+
+pub ready_lines_behave : ReadyLinesBehave
+ready_lines_behave p root ready position first line Skip s turns env c reached there words is fit = record {
+  behaves = λ at_row at to h lie inside begins.
+      action_behaves p root position first line Skip s turns env c reached there tt words is fit ready at_row at to h
+      lie inside begins;
+}
+ready_lines_behave p root ready position first line Stop s turns env c reached there words is fit = record {
+  behaves = λ at_row at to h lie inside begins.
+      action_behaves p root position first line Stop s turns env c reached there tt words is fit ready at_row at to h
+      lie inside begins;
+}
+ready_lines_behave p root ready position first line (Assign target value) s turns env c reached there words is fit = record {
+  behaves = λ at_row at to h lie inside begins.
+      action_behaves p root position first line (Assign target value) s turns env c reached there tt words is fit ready at_row at to h
+      lie inside begins;
+}
+ready_lines_behave p root ready position first line (Input channel target) s turns env c reached there words is fit = record {
+  behaves = λ at_row at to h lie inside begins.
+      action_behaves p root position first line (Input channel target) s turns env c reached there tt words is fit ready at_row at to h
+      lie inside begins;
+}
+ready_lines_behave p root ready position first line (Output channel value) s turns env c reached there words is fit = record {
+  behaves = λ at_row at to h lie inside begins.
+      action_behaves p root position first line (Output channel value) s turns env c reached there tt words is fit ready at_row at to h
+      lie inside begins;
+}
+ready_lines_behave p root ready position first line (Instance name actuals) s turns env c reached there words is fit =
+    record { behaves = λ at_row at to h lie inside begins. any }

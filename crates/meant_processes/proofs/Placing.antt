@@ -1,0 +1,224 @@
+-- Places among those that the walk reaches: what is known at one holds at the next.
+use Rattle.std.proofs.Common.{◌≡◌, ℕ, zero, suc, ◌<◌, ◌≤◌, ℤ, Bool, true, List, [], ◌∷◌, ◌++◌, length, Option}
+use Rattle.std.proofs.Common.{Some, None, refl, sym, ap, subst, ◌∙◌, arith, IsSomeAnd}
+use Rattle.std.specs.List.{AllByRecursion}
+use Rattle.std.specs.Prelude.{option_map, slice_get}
+use Rattle.machine_state.specs.Memory.{Memory}
+use Rattle.module_format.specs.declared.limits.TheConstants.{MAX_DATA_WORDS}
+use Rattle.occam_parser.specs.Lines.{Channels, Constants, Declaration, Variables}
+use Rattle.occam_parser.specs.OneOrMore.{as_list}
+use Rattle.occam_parser.specs.Blocks.{Process}
+use Rattle.occam_parser.specs.Words.{declaration_has_words, process_has_words}
+use Rattle.scalar_ranges.specs.Entries.{Entry}
+use Rattle.scalar_ranges.specs.Environments.{Environment, Held, Nothing}
+use Rattle.scalar_ranges.specs.MoveLaws.{meaning_at, shape}
+use Rattle.scalar_ranges.specs.Moves.{Known, begun_with, outermost}
+use Rattle.scalar_ranges.proofs.Found.{none_less}
+use Rattle.scalar_ranges.proofs.Nesting.{further_out, long_alike}
+use Rattle.program_uses.specs.Declaring.{add_declaration}
+use Rattle.program_meaning.specs.Doing.{doing}
+use Rattle.program_meaning.specs.GoingWell.{IsTrueIn}
+use Rattle.program_meaning.specs.Sequential.{IsSequential}
+use Rattle.program_meaning.specs.Storing.{bind_all, declare, held_by, zero_for}
+use Rattle.program_meaning.proofs.LeavesAreTrue.{leaves_are_true}
+use Rattle.usage_checks.specs.declared.channel_rules.Position.{Position}
+use Rattle.usage_checks.specs.AfterProcesses.{inside}
+use Rattle.usage_checks.specs.Holding.{DeclarationHolds}
+use Rattle.usage_checks.specs.ItemRules.{BreaksNoRule}
+use Rattle.usage_checks.specs.Reaching.{AProcess, Reaches}
+use Rattle.usage_checks.proofs.ProcessesGoWell.{Stands, declared_of_main, declared_true, processes_go_well}
+use Rattle.usage_checks.proofs.RangesStay.{declared_long}
+use Rattle.code_pieces.specs.declared.words.TheConstants.{GREATEST_WORD}
+use Rattle.code_pieces.specs.Pieces.{counted, word_after}
+use Rattle.line_pieces.specs.Homes as home
+use Rattle.line_pieces.specs.Homes.{Home}
+use Rattle.line_pieces.specs.Declarations.{Frame, channels_in, declared, home_for, with_names, with_words}
+use Rattle.line_pieces.specs.Declarations.{words_in}
+use Rattle.code_generator.specs.Processes.{Site, at_place, with_declaration}
+use Rattle.meant_lines.specs.Carrying.{HomesRise}
+use Rattle.meant_lines.proofs.Housing.{declared_homes_rise, get_before}
+use Rattle.meant_lines.proofs.Shapes.{same_shapes_carry}
+use Rattle.meant_processes.specs.Places.{CarriedAt, IsOwn, IsPlaced, Program, ground, standing}
+use Rattle.meant_processes.proofs.Indices.{IndicesStay, WhatLeaves, all_leaves}
+
+-- what memory carries once a process has ended that began with this environment, and with which indices
+abbrev pub Left : Program → Site → (ℕ → ℤ) → Environment → Environment → Memory → Type 0
+Left p s turns env after m = CarriedAt p s turns after m × IndicesStay (shape s.known.entries) env after
+
+-- ---- what is true after a process
+
+pub stands_there : (p : Program) (position : Position) (s : Site) (env : Environment) (listens : List Bool)
+    → IsPlaced p s env
+    → Stands (record { ports = p.ports; listens = listens }) (standing p position) s.known env
+stands_there p position s env listens placed = record {
+  counted = placed.counted;
+  main = record { own = placed.own; ports = placed.channels };
+  low = placed.low;
+  holds = placed.holds;
+}
+
+pub process_true : (p : Program) (position : Position) (first : ℕ) (process : Process) (s : Site) (env : Environment)
+    → BreaksNoRule p.items → Reaches p.items (standing p position) (AProcess first process) s.known
+    → IsSequential process → process_has_words process ≡ true → IsPlaced p s env
+    → WhatLeaves (IsTrueIn (outermost (length s.known.entries) (inside p.around process s.known).entries))
+    (doing p.ports process env)
+process_true p position first process s env none reached sequential words placed =
+    let final = outermost (length s.known.entries) (inside p.around process s.known).entries in
+    all_leaves (IsTrueIn final) (doing p.ports process env)
+    (leaves_are_true.running final p.ports process env (λ listens l.
+    (processes_go_well p.items (record { ports = p.ports; listens = listens }) process none).well (standing p position)
+    first s.known env l reached sequential words (stands_there p position s env listens placed)))
+
+-- ---- another place with the same frame
+
+pub placed_alike : (p : Program) (s : Site) (k : Known) (label : ℕ) (env after : Environment) → IsPlaced p s env
+    → shape k.entries ≡ shape s.known.entries → begun_with k.blocks ≤ length k.entries → IsTrueIn k.entries after
+    → IsPlaced p (at_place k label s) after
+placed_alike p s k label env after placed same low holds = record {
+  counted = placed.counted;
+  own = subst (λ (es : List Entry). AllByRecursion (λ e. IsOwn e.meaning) es) (sym same) placed.own;
+  channels = λ n port is. ap (meaning_at n) same ∙ placed.channels n port is;
+  links = placed.links;
+  low = low;
+  long = placed.long ∙ sym (long_alike k.entries s.known.entries same);
+  holds = holds;
+}
+
+pub carried_alike : (p : Program) (s : Site) (k : Known) (label : ℕ) (turns : ℕ → ℤ) (env : Environment) (m : Memory)
+    → shape k.entries ≡ shape s.known.entries → CarriedAt p s turns env m
+    → CarriedAt p (at_place k label s) turns env m
+carried_alike p s k label turns env m same x = record {
+  carries = same_shapes_carry (ground p s.frame.homes turns) s.frame.top s.known.entries k.entries env m (sym same)
+      x.carries;
+  bytes = x.bytes;
+}
+
+pub left_alike : (p : Program) (s : Site) (k : Known) (label : ℕ) (turns : ℕ → ℤ) (env after : Environment) (m : Memory)
+    → shape k.entries ≡ shape s.known.entries → Left p (at_place k label s) turns env after m
+    → Left p s turns env after m
+left_alike p s k label turns env after m same left = (
+  record {
+    carries = same_shapes_carry (ground p s.frame.homes turns) s.frame.top k.entries s.known.entries after m same
+        left.0.carries;
+    bytes = left.0.bytes;
+  },
+  subst (λ es. IndicesStay es env after) same left.1,
+)
+
+-- ---- homes
+
+pub got_below : (hs : List Home) (i : ℕ) (h : Home) → slice_get hs i ≡ Some h → i < length hs
+got_below [] i h is = absurd (cc is)
+got_below (x ∷ hs) zero h is = omega arith
+got_below (x ∷ hs) (suc i) h is = let less = got_below hs i h is in omega (arith, less)
+
+pub home_behind : (hs : List Home) (h : Home) → length (hs ++ h ∷ []) ≡ suc (length hs)
+home_behind [] h = refl
+home_behind (x ∷ hs) h = ap suc (home_behind hs h)
+
+names_front : (count : ℕ) (names : List (List ℕ)) (f : Frame) (i : ℕ) → i < length f.homes
+    → slice_get (with_names count names f).homes i ≡ slice_get f.homes i
+names_front count [] f i less = refl
+names_front count (name ∷ names) f i less =
+    let g = with_words count f in
+    let longer = home_behind f.homes (home.Word f.top) in
+    names_front count names g i (omega (arith, less, longer)) ∙ get_before f.homes (home.Word f.top) i less
+
+-- A declaration leaves the homes of the names before it.
+pub declared_front : (es : List Entry) (d : Declaration) (f : Frame) (i : ℕ) → i < length f.homes
+    → slice_get (declared es d f).homes i ≡ slice_get f.homes i
+declared_front es (Constants c) f i less = get_before f.homes (home_for es c.value_type c.value) i less
+declared_front es (Variables n) f i less = names_front (words_in es n.value_type n.size) (as_list n.names) f i less
+declared_front es (Channels n) f i less = names_front (channels_in es n.size) (as_list n.names) f i less
+
+-- ---- tops
+
+after_counted : (top count : ℕ) → word_after top count ≤ GREATEST_WORD
+unfolding word_after counted
+after_counted top count = omega arith
+
+after_further : (top count : ℕ) → top ≤ GREATEST_WORD → top ≤ word_after top count
+unfolding word_after counted
+after_further top count few = omega (arith, few)
+
+names_further : (count : ℕ) (names : List (List ℕ)) (f : Frame) → f.top ≤ GREATEST_WORD
+    → f.top ≤ (with_names count names f).top
+names_further count [] f few = omega arith
+names_further count (name ∷ names) f few =
+    let here = after_further f.top count few in
+    let rest = names_further count names (with_words count f) (after_counted f.top count) in
+    omega (arith, here, rest)
+
+-- A declaration takes words behind those that are taken.
+pub declared_further : (es : List Entry) (d : Declaration) (f : Frame) → f.top ≤ GREATEST_WORD
+    → f.top ≤ (declared es d f).top
+declared_further es (Constants c) f few = omega arith
+declared_further es (Variables n) f few = names_further (words_in es n.value_type n.size) (as_list n.names) f few
+declared_further es (Channels n) f few = names_further (channels_in es n.size) (as_list n.names) f few
+
+-- ---- what is declared
+
+all_bound : (names : List (List ℕ)) (held : Held) (env : Environment) (n : ℕ) → n ≤ length env
+    → outermost n (bind_all names held env) ≡ outermost n env
+all_bound [] held env n low = refl
+all_bound (name ∷ names) held env n low =
+    all_bound names held (record { name = name; held = held } ∷ env) n (omega (arith, low))
+    ∙ further_out n (record { name = name; held = held }) env low
+
+all_out : {A : Type 0} (xs : List A) → outermost (length xs) xs ≡ xs
+all_out xs = none_less (length xs) xs (omega arith)
+
+-- the names before a declaration hold what they held
+pub declared_out : (d : Declaration) (env inner : Environment) → declare d env ≡ Some inner
+    → outermost (length env) inner ≡ env
+declared_out (Constants c) env inner is = by_held (held_by env c.value) is
+  where
+    by_held : (o : Option Held)
+        → option_map (λ held. record { name = c.name; held = held } ∷ env) o ≡ Some inner
+        → outermost (length env) inner ≡ env
+    by_held None is = absurd (cc is)
+    by_held (Some held) is =
+        let same : record { name = c.name; held = held } ∷ env ≡ inner = cc is in
+        ap (outermost (length env)) (sym same)
+        ∙ further_out (length env) (record { name = c.name; held = held }) env (omega arith) ∙ all_out env
+declared_out (Variables n) env inner is = by_held (zero_for env n.size) is
+  where
+    by_held : (o : Option Held) → option_map (λ held. bind_all (as_list n.names) held env) o ≡ Some inner
+        → outermost (length env) inner ≡ env
+    by_held None is = absurd (cc is)
+    by_held (Some held) is =
+        let same : bind_all (as_list n.names) held env ≡ inner = cc is in
+        ap (outermost (length env)) (sym same) ∙ all_bound (as_list n.names) held env (length env) (omega arith)
+        ∙ all_out env
+declared_out (Channels n) env inner is =
+    let same : bind_all (as_list n.names) Nothing env ≡ inner = cc is in
+    ap (outermost (length env)) (sym same) ∙ all_bound (as_list n.names) Nothing env (length env) (omega arith)
+    ∙ all_out env
+
+true_at : (o : Option Environment) (P : Environment → Type 0) (inner : Environment) → IsSomeAnd o P → o ≡ Some inner
+    → P inner
+true_at None P inner all is = absurd all
+true_at (Some x) P inner all is = let same : x ≡ inner = cc is in subst P same all
+
+-- behind a declaration
+pub placed_behind : (p : Program) (s : Site) (d : Declaration) (env inner : Environment) → IsPlaced p s env
+    → DeclarationHolds s.known.entries d → declaration_has_words d ≡ true → declare d env ≡ Some inner
+    → HomesRise s.frame s.known.entries → (declared s.known.entries d s.frame).top ≤ MAX_DATA_WORDS
+    → IsPlaced p (with_declaration d s) inner
+placed_behind p s d env inner placed right words is rise few =
+    let es = s.known.entries in
+    let main = declared_of_main (record { ports = p.ports; listens = [] }) es d
+    (record { own = placed.own; ports = placed.channels }) in
+    let longer = declared_long d es in
+    let low = placed.low in
+    record {
+      counted = placed.counted;
+      own = main.own;
+      channels = main.ports;
+      links = λ n port at.
+          declared_front es d s.frame n (got_below s.frame.homes n _ (placed.links n port at)) ∙ placed.links n port at;
+      low = omega (arith, low, longer);
+      long = (declared_homes_rise s.frame es d rise few).long;
+      holds = true_at (declare d env) (IsTrueIn (add_declaration d es)) inner
+          (declared_true es env d right words placed.holds) is;
+    }

@@ -1,0 +1,5 @@
+pub mod Lying
+pub mod Places
+pub mod Premises
+pub mod Actions
+pub mod ProcessesBehave

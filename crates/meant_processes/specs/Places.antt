@@ -1,0 +1,85 @@
+-- Where a process of a program stands: what is known there, what memory carries, and which pieces are those of the whole.
+use Rattle.std.specs.Prelude.{◌≡◌, ℕ, ◌≤◌, ℤ, List, length, Option, Some, None, slice_get}
+use Rattle.std.specs.List.{AllByRecursion}
+use Rattle.machine_state.specs.Memory.{Memory}
+use Rattle.occam_parser.specs.Blocks.{ProgramItem}
+use Rattle.scalar_ranges.specs.declared.scope.ScalarKind.TheVariants as scalar
+use Rattle.scalar_ranges.specs.declared.scope.ArrayKind.TheVariants as array
+use Rattle.scalar_ranges.specs.Entries.{Meaning, Scalar, Array, Channel, type_range}
+use Rattle.scalar_ranges.specs.Environments.{Environment, item_at}
+use Rattle.scalar_ranges.specs.MoveLaws.{shape, meaning_at}
+use Rattle.scalar_ranges.specs.Moves.{begun_with}
+use Rattle.program_uses.specs.Actions.{Around}
+use Rattle.program_meaning.specs.Links.{Port}
+use Rattle.program_meaning.specs.GoingWell.{IsTrueIn}
+use Rattle.usage_checks.specs.declared.channel_rules.Position.{Position}
+use Rattle.usage_checks.specs.Reaching.{Standing}
+use Rattle.code_pieces.specs.Pieces.{Piece}
+use Rattle.line_pieces.specs.Homes.{Home, Link}
+use Rattle.code_generator.specs.Processes.{Site, Calls, Surroundings}
+use Rattle.code_generator.specs.Programs.{link_of}
+use Rattle.placed_code.specs.LaidCode.{LaidCode}
+use Rattle.meant_lines.specs.Carrying.{Ground, Carries}
+use Rattle.meant_lines.specs.Pushing.{StandsOn}
+use Rattle.meant_actions.specs.Bytes.{HasBytes}
+
+-- The items of a program, what is around the process, the code of instances, the code that is laid out, with so many
+-- words in its frame and these pieces, and which declarations are links.
+pub record Program : Type 0 where
+  pub items : List ProgramItem
+  pub around : Around
+  pub calls : Calls
+  pub code : LaidCode
+  pub words : ℕ
+  pub pieces : List Piece
+  pub ports : List (Option Port)
+
+abbrev pub surroundings : Program → Surroundings
+surroundings p = record { around = p.around; calls = p.calls }
+
+abbrev pub standing : Program → Position → Standing
+standing p position = record { around = p.around; position = position }
+
+-- the ground under a process whose names have these homes, where loops have these turns left
+abbrev pub ground : Program → List Home → (ℕ → ℤ) → Ground
+ground p homes turns = record {
+  footing = p.code.footing;
+  words = p.words;
+  pieces = p.pieces;
+  homes = homes;
+  turns = turns;
+}
+
+-- ---- pieces
+
+-- a piece of the whole code: what it stores is in the frame, and a table whose address it makes is read
+abbrev pub FitsIn : Program → Piece → Type 0
+FitsIn p piece = StandsOn p.words p.pieces piece
+
+abbrev pub AllFit : Program → List Piece → Type 0
+AllFit p ps = AllByRecursion (FitsIn p) ps
+
+-- ---- places
+
+-- No parameter is a variable, and the elements of an array that can change have the range of their type.
+abbrev pub IsOwn : Meaning → Type 0
+IsOwn (Scalar scalar.Reference type range) = ⊥
+IsOwn (Array array.Variable type size range) = range ≡ type_range type
+IsOwn m = Unit {0}
+
+-- At a site what is known is true, names have homes, and the ports are channels whose homes are their links.
+pub record IsPlaced (p : Program) (s : Site) (env : Environment) : Type 0 where
+  pub counted : p.around.uncounted ≡ None
+  pub own : AllByRecursion (λ e. IsOwn e.meaning) (shape s.known.entries)
+  pub channels : (n : ℕ) (port : Port) → item_at n p.ports ≡ Some (Some port)
+      → meaning_at n (shape s.known.entries) ≡ Some (Channel port.carries)
+  pub links : (n : ℕ) (port : Port) → item_at n p.ports ≡ Some (Some port)
+      → slice_get s.frame.homes n ≡ Some (Link (link_of port))
+  pub low : begun_with s.known.blocks ≤ length s.known.entries
+  pub long : length s.frame.homes ≡ length s.known.entries
+  pub holds : IsTrueIn s.known.entries env
+
+-- Memory carries an environment of the site's scope, and has bytes where its names are.
+pub record CarriedAt (p : Program) (s : Site) (turns : ℕ → ℤ) (env : Environment) (m : Memory) : Type 0 where
+  pub carries : Carries (ground p s.frame.homes turns) s.frame.top s.known.entries env m
+  pub bytes : HasBytes p.code.footing.depth s.frame.top m
