@@ -16,4 +16,5 @@ pub mod RepeatedIfs
 pub mod RepeatedBlocks
 pub mod Conditions
 pub mod Lines
+pub mod Declarations
 pub mod Processes

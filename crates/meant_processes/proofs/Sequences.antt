@@ -47,7 +47,7 @@ use Rattle.meant_lines.specs.Carrying.{Carries}
 use Rattle.meant_actions.proofs.Bytes.{bytes_stay}
 use Rattle.meant_processes.specs.Lying.{LieApart, PiecesBehave}
 use Rattle.meant_processes.specs.Places.{AllFit, CarriedAt, FitsIn, IsPlaced, Program, ground, standing, surroundings}
-use Rattle.meant_processes.specs.Premises.{DeclarationsOpen, LinesBehave}
+use Rattle.meant_processes.specs.Premises.{DeclarationOpens, LinesBehave}
 use Rattle.meant_processes.proofs.Behaving.{no_pieces, pieces_as, pieces_both, pieces_well, row_behind}
 use Rattle.meant_processes.proofs.Carried.{scope_left}
 use Rattle.meant_processes.proofs.CodeParts.{all_first, all_last, before_is, then_is, written_is}
@@ -128,7 +128,7 @@ module _ (p : Program) (none : BreaksNoRule p.items) where
             (indices_left (length env) (shape si.known.entries) inner e left.1)),
       )
 
-  pub declared_behaves : (d : Declaration) (q : Process) → DeclarationsOpen p → ProcessBehaves p q
+  pub declared_behaves : (d : Declaration) (q : Process) → DeclarationOpens p d → ProcessBehaves p q
       → ProcessBehaves p (Declared d q)
   declared_behaves d q opens behaves = record {
     behaves = λ position first s turns env c reached sequential words placed is fit. record {
@@ -144,7 +144,7 @@ module _ (p : Program) (none : BreaksNoRule p.items) where
           (subst (λ ps. LieApart p.code at_row at ps to) b.pieces lie) in
           by_value (declare d env) (λ inner. leaves (length env) (doing p.ports q inner))
           (λ inner declares.
-          let o = opens position first d q s turns env inner h reached placed both.0 declares
+          let o = opens position first q s turns env inner h reached placed both.0 declares
           (all_first (FitsIn p) decl b.rest.pieces fits) begins in
           let entered = placed_behind p s d env inner placed right.holds both.0 declares
           (record { long = placed.long; rise = begins.carries.rise })

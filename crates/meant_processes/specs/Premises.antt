@@ -46,11 +46,11 @@ pub record Opened (p : Program) (d : Declaration) (s : Site) (turns : ℕ → �
   pub leads : LeadOn p.code.footing (declaration_code s.known.entries d s.frame.top) before after
   pub carries : CarriedAt p (with_declaration d s) turns inner after.memory
 
--- So does that of a declaration that is reached.
-abbrev pub DeclarationsOpen : Program → Type 0
-DeclarationsOpen p = (position : Position) (first : ℕ) (d : Declaration) (process : Process) (s : Site)
-    (turns : ℕ → ℤ) (env inner : Environment) (h : Held)
+-- So does that of a declaration, wherever it is reached.
+abbrev pub DeclarationOpens : Program → Declaration → Type 0
+DeclarationOpens p d = (position : Position) (first : ℕ) (process : Process) (s : Site) (turns : ℕ → ℤ)
+    (env inner : Environment) (h : Held)
     → Reaches p.items (standing p position) (AProcess first (Declared d process)) s.known → IsPlaced p s env
     → declaration_has_words d ≡ true → declare d env ≡ Some inner
-    → AllFit p (declaration_code s.known.entries d s.frame.top)
-    → CarriedAt p s turns env h.memory → Opened p d s turns inner h
+    → AllFit p (declaration_code s.known.entries d s.frame.top) → CarriedAt p s turns env h.memory
+    → Opened p d s turns inner h
