@@ -1,5 +1,6 @@
 pub mod Lying
 pub mod Indices
+pub mod Housed
 pub mod Behaving
 pub mod CodeParts
 pub mod Choices

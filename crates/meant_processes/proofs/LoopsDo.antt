@@ -17,7 +17,7 @@ use Rattle.scalar_ranges.specs.Entries.{Entry, Meaning, Scalar}
 use Rattle.scalar_ranges.specs.Environments.{Environment, Held, One}
 use Rattle.scalar_ranges.specs.MoveLaws.{shape}
 use Rattle.scalar_ranges.specs.Moves.{Known, begin_loop, outermost, widen}
-use Rattle.scalar_ranges.proofs.MoveLaws.{as_long, shapes_stay}
+use Rattle.scalar_ranges.proofs.MoveLaws.{as_long, shape_long, shapes_stay}
 use Rattle.scalar_ranges.proofs.Nesting.{long_alike}
 use Rattle.program_uses.specs.Changes.{changed_by}
 use Rattle.program_uses.specs.Declaring.{add}
@@ -54,9 +54,10 @@ use Rattle.meant_lines.proofs.Words.{changes_both, changes_writing, frame_words_
 use Rattle.meant_actions.specs.Bytes.{HasBytes}
 use Rattle.meant_actions.proofs.Bytes.{bytes_stay}
 use Rattle.meant_processes.specs.Lying.{PiecesBehave}
-use Rattle.meant_processes.specs.Places.{AllFit, CarriedAt, IsPlaced, Program, ground, standing, surroundings}
+use Rattle.meant_processes.specs.Places.{AllFit, AreHoused, CarriedAt, IsPlaced, Program, ground, standing, surroundings}
 use Rattle.meant_processes.proofs.Behaving.{Led, pieces_well, straight_before}
 use Rattle.meant_processes.proofs.Carried.{left_below, left_here, loop_opened, scope_left, with_left}
+use Rattle.meant_processes.proofs.Housed.{housed_more}
 use Rattle.meant_processes.proofs.Indices.{IndicesStay, indices_left, indices_then, shape_outermost}
 use Rattle.meant_processes.proofs.Loops.{Turns, counted_turn, loop_behaves}
 use Rattle.meant_processes.proofs.LoopWords.{back_is, more_than_one, not_more, turned_last, turned_once}
@@ -188,6 +189,10 @@ module _ (p : Program) (none : BreaksNoRule p.items) (position : Position) (q : 
           links = λ n port at.
               let got = x.there.links n port at in
               get_before s.frame.homes (Block s.frame.top s.label) n (got_below s.frame.homes n _ got) ∙ got;
+          housed = housed_more s.frame.homes (Block s.frame.top s.label)
+              (record { name = name; meaning = Scalar scalar.Index value_type.Int full })
+              (shape (widen ns s.known.entries)) (long ∙ sym wide_long ∙ sym (shape_long (widen ns s.known.entries))) tt
+              (subst (AreHoused s.frame.homes) (sym wide_alike) x.there.housed);
           low = omega arith;
           long = home_behind s.frame.homes (Block s.frame.top s.label) ∙ ap suc (long ∙ sym wide_long);
           holds = record {

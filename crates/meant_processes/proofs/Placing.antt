@@ -38,7 +38,8 @@ use Rattle.code_generator.specs.Processes.{Site, at_place, with_declaration}
 use Rattle.meant_lines.specs.Carrying.{HomesRise}
 use Rattle.meant_lines.proofs.Housing.{declared_homes_rise, get_before}
 use Rattle.meant_lines.proofs.Shapes.{same_shapes_carry}
-use Rattle.meant_processes.specs.Places.{CarriedAt, IsOwn, IsPlaced, Program, ground, standing}
+use Rattle.meant_processes.specs.Places.{AreHoused, CarriedAt, IsOwn, IsPlaced, Program, ground, standing}
+use Rattle.meant_processes.proofs.Housed.{declared_housed}
 use Rattle.meant_processes.proofs.Indices.{IndicesStay, WhatLeaves, all_leaves}
 
 -- what memory carries once a process has ended that began with this environment, and with which indices
@@ -79,6 +80,7 @@ placed_alike p s k label env after placed same low holds = record {
   own = subst (λ (es : List Entry). AllByRecursion (λ e. IsOwn e.meaning) es) (sym same) placed.own;
   channels = λ n port is. ap (meaning_at n) same ∙ placed.channels n port is;
   links = placed.links;
+  housed = subst (AreHoused s.frame.homes) (sym same) placed.housed;
   low = low;
   long = placed.long ∙ sym (long_alike k.entries s.known.entries same);
   holds = holds;
@@ -217,6 +219,7 @@ placed_behind p s d env inner placed right words is rise few =
       channels = main.ports;
       links = λ n port at.
           declared_front es d s.frame n (got_below s.frame.homes n _ (placed.links n port at)) ∙ placed.links n port at;
+      housed = declared_housed es d s.frame placed.long placed.housed;
       low = omega (arith, low, longer);
       long = (declared_homes_rise s.frame es d rise few).long;
       holds = true_at (declare d env) (IsTrueIn (add_declaration d es)) inner

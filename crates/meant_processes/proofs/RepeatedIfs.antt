@@ -20,7 +20,7 @@ use Rattle.scalar_ranges.specs.MoveLaws.{shape}
 use Rattle.scalar_ranges.specs.Moves as moves
 use Rattle.scalar_ranges.specs.Moves.{Known, begin, begun_with, excluded, next, outermost}
 use Rattle.scalar_ranges.specs.Values.{truth_of}
-use Rattle.scalar_ranges.proofs.MoveLaws.{as_long, shapes_stay}
+use Rattle.scalar_ranges.proofs.MoveLaws.{as_long, shape_long, shapes_stay}
 use Rattle.scalar_ranges.proofs.NarrowingLaws.{narrowing_holds}
 use Rattle.scalar_ranges.proofs.Nesting.{long_alike}
 use Rattle.program_uses.specs.Changes.{changed_by, changed_by_component}
@@ -49,11 +49,12 @@ use Rattle.line_pieces.specs.Declarations.{with_home}
 use Rattle.code_generator.specs.Processes.{Site, at_place, in_each_turn, placed}
 use Rattle.meant_lines.proofs.Housing.{get_before}
 use Rattle.meant_lines.proofs.Shapes.{same_shapes_carry}
-use Rattle.meant_processes.specs.Places.{CarriedAt, FitsIn, IsPlaced, Program, ground, standing, surroundings}
+use Rattle.meant_processes.specs.Places.{AreHoused, CarriedAt, FitsIn, IsPlaced, Program, ground, standing, surroundings}
 use Rattle.meant_processes.specs.Premises.{ConditionsPush}
 use Rattle.meant_processes.proofs.Carried.{index_opened, scope_left}
 use Rattle.meant_processes.proofs.Choices.{ChoiceMeans, ChoicesMean}
 use Rattle.meant_processes.proofs.Ifs.{carried_stays, chosen_none, else_none, shown}
+use Rattle.meant_processes.proofs.Housed.{housed_more}
 use Rattle.meant_processes.proofs.Indices.{IndicesStay, indices_left, shape_outermost}
 use Rattle.meant_processes.proofs.Placing.{Left, carried_alike, got_below, home_behind, left_alike, placed_alike}
 use Rattle.meant_processes.proofs.Sequences.{ProcessBehaves, pieces_left}
@@ -107,6 +108,10 @@ module _ (p : Program) (none : BreaksNoRule p.items) (conditions : ConditionsPus
         links = λ n port at.
             let got = there.links n port at in
             get_before s.frame.homes Nowhere n (got_below s.frame.homes n _ got) ∙ got;
+        housed = housed_more s.frame.homes Nowhere (record { name = name; meaning = Constant value_type.Int o })
+            (shape start)
+            (there.long ∙ sym (long_alike start s.known.entries same) ∙ sym (shape_long start)) tt
+            (subst (AreHoused s.frame.homes) (sym same) there.housed);
         low = low;
         long = home_behind s.frame.homes Nowhere
             ∙ ap suc (there.long ∙ sym (long_alike start s.known.entries same));

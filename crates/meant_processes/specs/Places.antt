@@ -1,11 +1,11 @@
 -- Where a process of a program stands: what is known there, what memory carries, and which pieces are those of the whole.
-use Rattle.std.specs.Prelude.{◌≡◌, ℕ, ◌≤◌, ℤ, List, length, Option, Some, None, slice_get}
+use Rattle.std.specs.Prelude.{◌≡◌, ℕ, ◌≤◌, ℤ, List, [], ◌∷◌, length, Option, Some, None, slice_get}
 use Rattle.std.specs.List.{AllByRecursion}
 use Rattle.machine_state.specs.Memory.{Memory}
 use Rattle.occam_parser.specs.Blocks.{ProgramItem}
 use Rattle.scalar_ranges.specs.declared.scope.ScalarKind.TheVariants as scalar
 use Rattle.scalar_ranges.specs.declared.scope.ArrayKind.TheVariants as array
-use Rattle.scalar_ranges.specs.Entries.{Meaning, Scalar, Array, Channel, type_range}
+use Rattle.scalar_ranges.specs.Entries.{Meaning, Scalar, Array, Channel, Entry, type_range}
 use Rattle.scalar_ranges.specs.Environments.{Environment, item_at}
 use Rattle.scalar_ranges.specs.MoveLaws.{shape, meaning_at}
 use Rattle.scalar_ranges.specs.Moves.{begun_with}
@@ -15,7 +15,7 @@ use Rattle.program_meaning.specs.GoingWell.{IsTrueIn}
 use Rattle.usage_checks.specs.declared.channel_rules.Position.{Position}
 use Rattle.usage_checks.specs.Reaching.{Standing}
 use Rattle.code_pieces.specs.Pieces.{Piece}
-use Rattle.line_pieces.specs.Homes.{Home, Link}
+use Rattle.line_pieces.specs.Homes.{Home, Link, Word}
 use Rattle.code_generator.specs.Processes.{Site, Calls, Surroundings}
 use Rattle.code_generator.specs.Programs.{link_of}
 use Rattle.placed_code.specs.LaidCode.{LaidCode}
@@ -67,7 +67,20 @@ IsOwn (Scalar scalar.Reference type range) = ⊥
 IsOwn (Array array.Variable type size range) = range ≡ type_range type
 IsOwn m = Unit {0}
 
--- At a site what is known is true, names have homes, and the ports are channels whose homes are their links.
+-- A variable, and an array that can change, have words of their own.
+abbrev pub IsHoused : Option Home → Meaning → Type 0
+IsHoused (Some (Word w)) m = Unit {0}
+IsHoused h (Scalar scalar.Variable type range) = ⊥
+IsHoused h (Array array.Variable type size range) = ⊥
+IsHoused h m = Unit {0}
+
+-- so do those among these names
+abbrev pub AreHoused : List Home → List Entry → Type 0
+AreHoused hs [] = Unit {0}
+AreHoused hs (e ∷ es) = IsHoused (slice_get hs (length es)) e.meaning × AreHoused hs es
+
+-- At a site what is known is true, names have the homes of their kinds, and the ports are channels whose homes are
+-- their links.
 pub record IsPlaced (p : Program) (s : Site) (env : Environment) : Type 0 where
   pub counted : p.around.uncounted ≡ None
   pub own : AllByRecursion (λ e. IsOwn e.meaning) (shape s.known.entries)
@@ -75,6 +88,7 @@ pub record IsPlaced (p : Program) (s : Site) (env : Environment) : Type 0 where
       → meaning_at n (shape s.known.entries) ≡ Some (Channel port.carries)
   pub links : (n : ℕ) (port : Port) → item_at n p.ports ≡ Some (Some port)
       → slice_get s.frame.homes n ≡ Some (Link (link_of port))
+  pub housed : AreHoused s.frame.homes (shape s.known.entries)
   pub low : begun_with s.known.blocks ≤ length s.known.entries
   pub long : length s.frame.homes ≡ length s.known.entries
   pub holds : IsTrueIn s.known.entries env
