@@ -1,5 +1,5 @@
 -- The code of declarations that are reached leads to memory that carries what they declare.
-use Rattle.std.proofs.Common.{◌≡◌, ℕ, List, sym, subst}
+use Rattle.std.proofs.Common.{ℕ, List, sym, subst}
 use Rattle.occam_parser.specs.Lines.{Channels, Constants, Declaration, Variables}
 use Rattle.occam_parser.specs.Blocks.{Declared}
 use Rattle.scalar_ranges.specs.Entries.{Entry}

@@ -1,11 +1,10 @@
 -- Variables have words of their own, as their declarations gave them.
-use Rattle.std.proofs.Common.{◌≡◌, ℕ, suc, ◌<◌, ◌≤◌, Bool, true, false, cond, List, [], ◌∷◌, ◌++◌, length, Option, Some}
+use Rattle.std.proofs.Common.{◌≡◌, ℕ, suc, ◌<◌, Bool, true, false, cond, List, [], ◌∷◌, ◌++◌, length, Option, Some}
 use Rattle.std.proofs.Common.{None, refl, sym, ap, subst, ◌∙◌, arith}
 use Rattle.std.specs.List.{AllByRecursion}
 use Rattle.std.specs.Prelude.{bytes_eq, nat_eq, option_and_then, slice_get}
 use Rattle.word_arithmetic.specs.Range.{Ends, full}
 use Rattle.occam_parser.specs.declared.tree.ValueType.{ValueType}
-use Rattle.occam_parser.specs.Expressions.{Expression}
 use Rattle.occam_parser.specs.Lines as lines
 use Rattle.occam_parser.specs.Lines.{Channels, Constants, Declaration, Value, Variables}
 use Rattle.occam_parser.specs.OneOrMore.{as_list}
@@ -18,8 +17,7 @@ use Rattle.scalar_ranges.proofs.MoveLaws.{shape_long}
 use Rattle.program_uses.specs.Constants.{size_in}
 use Rattle.program_uses.specs.Declaring.{add, add_all, add_declaration, channel_meaning, constant_meaning, range_of_bytes}
 use Rattle.program_uses.specs.Declaring.{range_of_items, table_of, variable_meaning}
-use Rattle.line_pieces.specs.Homes as home
-use Rattle.line_pieces.specs.Homes.{Home, Nowhere, Word, home_of}
+use Rattle.line_pieces.specs.Homes.{Home, Word, home_of}
 use Rattle.line_pieces.specs.Declarations.{Frame, channels_in, declared, home_for, with_names, with_words, words_in}
 use Rattle.meant_lines.proofs.Housing.{get_before, get_last}
 use Rattle.meant_processes.specs.Places.{AreHoused, IsHoused, IsOwn}

@@ -1,10 +1,12 @@
 -- The code of the actions that are reached behaves, where each of them has what it needs.
-use Rattle.std.proofs.Common.{◌≡◌, ℕ, ◌+◌, ◌<◌, ℤ, Bool, true, List, [], ◌∷◌, length, Some, refl, sym, subst, arith}
+use Rattle.std.proofs.Common.{◌≡◌, ℕ, ◌+◌, ℤ, Bool, true, List, [], ◌∷◌, length, Some, refl, sym, subst, arith}
 use Rattle.occam_parser.specs.Lines.{Action, Assign, Input, Instance, Output, Skip, Stop}
 use Rattle.occam_parser.specs.Blocks.{Act, Does}
 use Rattle.occam_parser.specs.Words.{action_has_words}
 use Rattle.usage_checks.specs.declared.channel_rules.Position.{Position}
+use Rattle.usage_checks.specs.ItemRules.{BreaksNoRule}
 use Rattle.usage_checks.specs.Reaching.{AProcess, Reaches}
+use Rattle.usage_checks.proofs.PlacesHold.{places_hold}
 use Rattle.code_generator.specs.Processes.{Site}
 use Rattle.scalar_ranges.specs.Entries.{Entry}
 use Rattle.scalar_ranges.specs.Environments.{Environment}
@@ -15,17 +17,17 @@ use Rattle.code_pieces.specs.Pieces.{Code, Row, operates}
 use Rattle.line_pieces.specs.Actions.{action_code, assign_code, input_code, output_code}
 use Rattle.line_pieces.specs.Declarations.{Frame, facts_in}
 use Rattle.placed_code.specs.LaidCode.{LaidCode, Lie}
-use Rattle.placed_code.specs.Behaves.{Behaves, any, over}
-use Rattle.placed_code.specs.Points.{point}
-use Rattle.placed_code.specs.StraightPieces.{Held}
+use Rattle.placed_code.specs.Behaves.{any, over}
 use Rattle.meant_actions.proofs.Actions.{actions_behave}
+use Rattle.meant_actions.proofs.Checked.{checked_actions_are_ready}
 use Rattle.meant_actions.proofs.Exchanging.{roots_are_undisturbed}
 use Rattle.meant_code.proofs.StraightLines.{assign_is, input_is, output_is}
-use Rattle.meant_processes.specs.Actions.{ActionsAreReady, ReadyLinesBehave}
-use Rattle.meant_processes.specs.Lying.{ComesTo, LieApart}
+use Rattle.meant_processes.specs.Actions.{ChannelsArePorts, ReachedLinesBehave}
+use Rattle.meant_processes.specs.Lying.{LieApart, PiecesBehave}
 use Rattle.meant_processes.specs.Places.{AllFit, CarriedAt, IsPlaced, Program, ground, standing}
 use Rattle.meant_processes.proofs.Behaving.{goes_on_behind}
 use Rattle.meant_processes.proofs.CodeParts.{written_is}
+use Rattle.meant_processes.proofs.Housed.{arrays_housed, no_references, scalars_housed}
 use Rattle.meant_processes.proofs.Lying.{straight_lie, stop_lies}
 
 -- the code of an action lies as ever: no two rows are in it
@@ -61,56 +63,54 @@ action_lies c at_row at to f es label (Output channel value) code is lie =
 action_lies c at_row at to f es label (Instance name actuals) code is lie = absurd (cc is)
 
 -- an action that is no instance
-action_behaves : (p : Program) → p.code.footing.depth ≡ 0 → (position : Position) (first line : ℕ) (action : Action)
-    (s : Site) (turns : ℕ → ℤ) (env : Environment) (c : Code)
+action_behaves : (p : Program) → BreaksNoRule p.items → p.code.footing.depth ≡ 0 → ChannelsArePorts p
+    → (position : Position) (first line : ℕ) (action : Action) (s : Site) (turns : ℕ → ℤ) (env : Environment) (c : Code)
     → Reaches p.items (standing p position) (AProcess first (Does line (Act action))) s.known → IsPlaced p s env
     → IsSequentialAction action → action_has_words action ≡ true
-    → action_code s.frame s.known.entries s.label action ≡ Some c → AllFit p c.pieces → ActionsAreReady p
-    → (at_row : Bool) (at to : ℕ) (h : Held) → LieApart p.code at_row at c.pieces to → to < length p.code.code
-    → CarriedAt p s turns env h.memory
-    → Behaves p.code (ComesTo to (CarriedAt p s turns)) (point at h) (acting p.ports action env)
-action_behaves p root position first line action s turns env c reached there sequential words is fit ready at_row at to
-    h lie inside begins =
-    let g = ground p s.frame.homes turns in
-    let few = begins.carries.frame.few in
-    let room = begins.carries.room in
-    goes_on_behind p.code
-    (actions_behave p.code g s.frame at to s.label s.known.entries env h p.ports action c refl
-    (record {
-      footing = refl;
-      meets = there.holds.meets;
-      carries = begins.carries;
-      bytes = begins.bytes;
-    }) (roots_are_undisturbed g s.frame.top s.known.entries root)
-    (ready position first line action s turns env h.memory reached there sequential words (omega (arith, few, room))
-    begins) is fit (action_lies p.code at_row at to s.frame s.known.entries s.label action c is lie) inside)
-    (λ e q ends. over (ends.at, record { carries = ends.carries; bytes = ends.bytes }))
+    → action_code s.frame s.known.entries s.label action ≡ Some c → AllFit p c.pieces
+    → PiecesBehave p.code (CarriedAt p s turns env) c.pieces (CarriedAt p s turns) (acting p.ports action env)
+action_behaves p none root ports position first line action s turns env c reached there sequential words is fit = record {
+  behaves = λ at_row at to h lie inside begins.
+      let es = s.known.entries in
+      let g = ground p s.frame.homes turns in
+      let few = begins.carries.frame.few in
+      let room = begins.carries.room in
+      let right = places_hold p.items (standing p position) (AProcess first (Does line (Act action))) s.known none reached
+      in
+      let ready = checked_actions_are_ready g s.frame.top es env p.ports p.around.signatures action
+      (omega (arith, few, room))
+      (record {
+        holds = there.holds;
+        count = length p.around.signatures;
+        whole = right.whole.entries;
+        scalars = λ name type range means. scalars_housed s.frame.homes es name type range there.housed means;
+        references = λ name type range means. no_references es name type range there.own means;
+        arrays = λ name type size range means.
+            arrays_housed s.frame.homes es name type size range there.housed means;
+      }) (ports position first line action s turns env reached there) right.holds words sequential in
+      goes_on_behind p.code
+      (actions_behave p.code g s.frame at to s.label es env h p.ports action c refl
+      (record {
+        footing = refl;
+        meets = there.holds.meets;
+        carries = begins.carries;
+        bytes = begins.bytes;
+      }) (roots_are_undisturbed g s.frame.top es root) ready is fit
+      (action_lies p.code at_row at to s.frame es s.label action c is lie) inside)
+      (λ e q ends. over (ends.at, record { carries = ends.carries; bytes = ends.bytes }));
+}
 
-pub ready_lines_behave : ReadyLinesBehave
-ready_lines_behave p root ready position first line Skip s turns env c reached there words is fit = record {
-  behaves = λ at_row at to h lie inside begins.
-      action_behaves p root position first line Skip s turns env c reached there tt words is fit ready at_row at to h
-      lie inside begins;
-}
-ready_lines_behave p root ready position first line Stop s turns env c reached there words is fit = record {
-  behaves = λ at_row at to h lie inside begins.
-      action_behaves p root position first line Stop s turns env c reached there tt words is fit ready at_row at to h
-      lie inside begins;
-}
-ready_lines_behave p root ready position first line (Assign target value) s turns env c reached there words is fit = record {
-  behaves = λ at_row at to h lie inside begins.
-      action_behaves p root position first line (Assign target value) s turns env c reached there tt words is fit ready at_row at to h
-      lie inside begins;
-}
-ready_lines_behave p root ready position first line (Input channel target) s turns env c reached there words is fit = record {
-  behaves = λ at_row at to h lie inside begins.
-      action_behaves p root position first line (Input channel target) s turns env c reached there tt words is fit ready at_row at to h
-      lie inside begins;
-}
-ready_lines_behave p root ready position first line (Output channel value) s turns env c reached there words is fit = record {
-  behaves = λ at_row at to h lie inside begins.
-      action_behaves p root position first line (Output channel value) s turns env c reached there tt words is fit ready at_row at to h
-      lie inside begins;
-}
-ready_lines_behave p root ready position first line (Instance name actuals) s turns env c reached there words is fit =
+pub reached_lines_behave : ReachedLinesBehave
+reached_lines_behave p none root ports position first line Skip s turns env c reached there words is fit =
+    action_behaves p none root ports position first line Skip s turns env c reached there tt words is fit
+reached_lines_behave p none root ports position first line Stop s turns env c reached there words is fit =
+    action_behaves p none root ports position first line Stop s turns env c reached there tt words is fit
+reached_lines_behave p none root ports position first line (Assign target value) s turns env c reached there words is fit =
+    action_behaves p none root ports position first line (Assign target value) s turns env c reached there tt words is fit
+reached_lines_behave p none root ports position first line (Input channel target) s turns env c reached there words is fit =
+    action_behaves p none root ports position first line (Input channel target) s turns env c reached there tt words is fit
+reached_lines_behave p none root ports position first line (Output channel value) s turns env c reached there words is fit =
+    action_behaves p none root ports position first line (Output channel value) s turns env c reached there tt words is fit
+reached_lines_behave p none root ports position first line (Instance name actuals) s turns env c reached there words is
+    fit =
     record { behaves = λ at_row at to h lie inside begins. any }

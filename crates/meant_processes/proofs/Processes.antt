@@ -11,6 +11,7 @@ use Rattle.meant_processes.proofs.Behaving.{pieces_as}
 use Rattle.meant_processes.proofs.Conditions.{conditions_push}
 use Rattle.meant_processes.proofs.Blocks.{block_behaves}
 use Rattle.meant_processes.proofs.Declarations.{declaration_opens}
+use Rattle.meant_processes.proofs.Lines.{reached_lines_behave}
 use Rattle.meant_processes.proofs.RepeatedBlocks.{repeated_behaves}
 use Rattle.meant_processes.proofs.Sequences.{ConstructBehaves, EachBehaves, ProcessBehaves, act_behaves}
 use Rattle.meant_processes.proofs.Sequences.{declared_behaves}
@@ -42,7 +43,7 @@ module _ (p : Program) (none : BreaksNoRule p.items) (lines : LinesBehave p) whe
     component_does (Guarded line g q) other = process_does q other
 
 pub processes_behave : ProcessesBehave
-processes_behave p process none sequential words other lines position first s turns env c reached there is fit =
+processes_behave p process none sequential words other root ports position first s turns env c reached there is fit =
     pieces_as p.code (λ m carries. carries) (λ e m left. left.0)
-    ((process_does p none lines process other).behaves position first s turns env c reached sequential words there is
-    fit)
+    ((process_does p none (reached_lines_behave p none root ports) process other).behaves position first s turns env c
+    reached sequential words there is fit)

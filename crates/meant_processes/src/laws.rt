@@ -1,6 +1,6 @@
 //! The laws of what the code of processes does, each the contract of a function that does nothing.
 
-ghost use Rattle.meant_processes.specs.Actions.{ReadyLinesBehave};
+ghost use Rattle.meant_processes.specs.Actions.{ReachedLinesBehave};
 ghost use Rattle.meant_processes.specs.Lying.{PiecesLieApart};
 ghost use Rattle.meant_processes.specs.ProcessesBehave.{ProcessesBehave};
 
@@ -9,14 +9,13 @@ pub fn pieces_lie_apart()
     ensures { PiecesLieApart }
 {}
 
-/// The code of each process of a sequential program that breaks no rule makes a process do what its meaning says, where
-/// the code of each line that is reached does.
-pub fn processes_behave()
-    ensures { ProcessesBehave }
+/// In the root the code of each line that is reached behaves, where the channels of actions are ports.
+pub fn reached_lines_behave()
+    ensures { ReachedLinesBehave }
 {}
 
-/// In the root the code of each line that is reached behaves, where each action has what its code needs: its variables
-/// have words, its channels are ports, and its expressions are pushed.
-pub fn ready_lines_behave()
-    ensures { ReadyLinesBehave }
+/// The code of each process of a sequential program that breaks no rule makes a process do what its meaning says, where
+/// it declares no channel and those of its actions are ports.
+pub fn processes_behave()
+    ensures { ProcessesBehave }
 {}
