@@ -47,11 +47,11 @@ if_behaves p s f after turns env x found c there mean is fit =
 
 module _ (p : Program) (none : BreaksNoRule p.items) (conditions : ConditionsPush p) where
   -- a block, by its word
-  block_by : {part : Part} (word : Terminal) (cs : Components part) (position : Position) (s : Site) (turns : ℕ → ℤ)
+  block_by : {part : Part} (word : Terminal) (cs : Components part) (s : Site) (turns : ℕ → ℤ)
       (env : Environment) (c : Code) → IsMadeOf word part → IsSequentialWord word → AreSequential word cs
       → components_have_words cs ≡ true → EachBehaves p cs
       → ((piece : Piece) (m : Known) → StandsAmong p.around word cs (begun word s.known) piece m
-      → Reaches p.items (standing p position) piece m)
+      → Reaches p.items (in_block word s.known (standing p)) piece m)
       → IsPlaced p s env
       → by_block word (components_code (surroundings p) cs s)
       (if_code s s.frame (ended word (after_components p.around word cs (begun word s.known)))
@@ -59,13 +59,13 @@ module _ (p : Program) (none : BreaksNoRule p.items) (conditions : ConditionsPus
       → AllFit p c.pieces
       → PiecesBehave p.code (CarriedAt p s turns env) c.pieces (Left p s turns env)
       (doing_by_word word (doing_components p.ports cs env) (doing_first p.ports cs env))
-  block_by (Mark mark.Seq) cs position s turns env c made ok sequential words each reach there is fit =
+  block_by (Mark mark.Seq) cs s turns env c made ok sequential words each reach there is fit =
       pieces_as p.code (λ m carries. carries) (λ e m left. left.0)
-      (components_behave p none position cs s turns env c reach each made sequential words there is fit)
-  block_by (Mark mark.If) cs position s turns env c made ok sequential words each reach there is fit =
+      (components_behave p none cs s turns env c reach each made sequential words there is fit)
+  block_by (Mark mark.If) cs s turns env c made ok sequential words each reach there is fit =
       let choices = placed_choices (surroundings p) cs (begun (Mark mark.If) s.known) in
       let found = doing_first p.ports cs env in
-      let mean = choices_mean p none conditions position cs s turns env reach each made sequential words there in
+      let mean = choices_mean p none conditions cs s turns env reach each made sequential words there in
       let ending = with_ending choices in
       if_behaves p s s.frame (ended (Mark mark.If) (after_components p.around (Mark mark.If) cs
       (begun (Mark mark.If) s.known))) turns env (with_opening ending) found c there
@@ -73,15 +73,15 @@ module _ (p : Program) (none : BreaksNoRule p.items) (conditions : ConditionsPus
       ending.ending found
       (ending_means p.code (FitsIn p) s.frame env (CarriedAt p s turns env) (Left p s turns env) choices found mean.0))
       is fit
-  block_by word cs position s turns env c made ok sequential words each reach there is fit = absurd ok
+  block_by word cs s turns env c made ok sequential words each reach there is fit = absurd ok
 
   pub block_behaves : (kind : _) (cs : Components (part_of kind)) → EachBehaves p cs
       → ConstructBehaves p (Block kind cs)
   block_behaves kind cs each = record {
-    behaves = λ position first line s turns env c reached sequential words there is fit.
+    behaves = λ first line s turns env c reached sequential words there is fit.
         let word = block_word kind in
-        let t = standing p position in
+        let t = standing p in
         let u = in_block word s.known t in
-        block_by word cs u.position s turns env c (kind_fits kind) sequential.0 sequential.1 words each
+        block_by word cs s turns env c (kind_fits kind) sequential.0 sequential.1 words each
         (λ piece m among. to_part t u first line (Block kind cs) piece s.known m reached (refl, among)) there is fit;
   }

@@ -9,8 +9,8 @@ use Rattle.meant_processes.specs.Places.{Program, ground, standing}
 use Rattle.meant_processes.specs.Premises.{ConditionsPush}
 
 pub conditions_push : (p : Program) → BreaksNoRule p.items → ConditionsPush p
-conditions_push p none position line e process s turns env holds reached there words few truth_is =
-    let right = places_hold p.items (standing p position) (AComponent (Chosen line e process)) s.known none reached in
+conditions_push p none line e process s turns env holds reached there words few truth_is =
+    let right = places_hold p.items (standing p) (AComponent (Chosen line e process)) s.known none reached in
     let checked = right.holds.1 in
     conditions_are_pushed (ground p s.frame.homes turns) s.frame.top s.frame.top s.known.entries env e holds
     (record { holds = there.holds; free = omega arith; counted = omega (arith, few) })

@@ -38,10 +38,10 @@ opened_bytes g f es (Channels n) inner h other o bytes = absurd other
 
 pub declaration_opens : (p : Program) → BreaksNoRule p.items → (d : Declaration) → IsOfNoChannel d
     → DeclarationOpens p d
-declaration_opens p none d other position first process s turns env inner h reached there words declares fit begins =
+declaration_opens p none d other first process s turns env inner h reached there words declares fit begins =
     let es = s.known.entries in
     let g = ground p s.frame.homes turns in
-    let right = places_hold p.items (standing p position) (AProcess first (Declared d process)) s.known none reached in
+    let right = places_hold p.items (standing p) (AProcess first (Declared d process)) s.known none reached in
     let o = declarations_are_carried g s.frame es env inner d h there.holds (known_declaration es d right.holds) words
     declares there.long (room_for d (declared es d s.frame).top p.words other) fit begins.carries in
     record {

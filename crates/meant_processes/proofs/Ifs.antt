@@ -113,19 +113,19 @@ carried_stays p s turns env old new there changes x = record {
 
 module _ (p : Program) (none : BreaksNoRule p.items) (conditions : ConditionsPush p) where
   -- the code of a condition leads to its truth, wherever it is reached
-  pub shown : (position : Position) (line : ℕ) (e : Expression) (q : Process) (s : Site) (turns : ℕ → ℤ)
+  pub shown : (line : ℕ) (e : Expression) (q : Process) (s : Site) (turns : ℕ → ℤ)
       (env : Environment) (holds : Bool) (h : Held)
-      → Reaches p.items (standing p position) (AComponent (Chosen line e q)) s.known → IsPlaced p s env
+      → Reaches p.items (standing p) (AComponent (Chosen line e q)) s.known → IsPlaced p s env
       → has_words e ≡ true → truth_of env e ≡ Some holds
       → AllFit p (expression_code s.frame.homes s.known.entries s.frame.top e) → CarriedAt p s turns env h.memory
       → (after : Held) × LeadOn p.code.footing (expression_code s.frame.homes s.known.entries s.frame.top e
       ++ forgets (may_show s.known.entries e) (test_of s.known.entries e)) h after
       × ((address after.stack.a == 0) ≡ not holds) × ChangesWithin s.frame.top p.words h.memory after.memory
-  shown position line e q s turns env holds h reached there words truth_is fit carries =
+  shown line e q s turns env holds h reached there words truth_is fit carries =
       let few = carries.carries.frame.few in
       let room = carries.carries.room in
       let code = expression_code s.frame.homes s.known.entries s.frame.top e in
-      let pushes = conditions position line e q s turns env holds reached there words (omega (arith, few, room)) truth_is in
+      let pushes = conditions line e q s turns env holds reached there words (omega (arith, few, room)) truth_is in
       let pushed = pushes fit h carries.carries in
       let f = forgotten p.code.footing (may_show s.known.entries e) (test_of s.known.entries e) pushed.after
       (subst (FitsSigned w32) (sym pushed.a) (truth_word holds)) in (
@@ -136,16 +136,16 @@ module _ (p : Program) (none : BreaksNoRule p.items) (conditions : ConditionsPus
       )
 
   -- A choice that is reached does what it means.
-  pub choice_means : (position : Position) (line : ℕ) (e : Expression) (q : Process) (s : Site) (turns : ℕ → ℤ)
+  pub choice_means : (line : ℕ) (e : Expression) (q : Process) (s : Site) (turns : ℕ → ℤ)
       (env : Environment) (m : Known)
-      → Reaches p.items (standing p position) (AComponent (Chosen line e q)) m → ProcessBehaves p q → IsSequential q
+      → Reaches p.items (standing p) (AComponent (Chosen line e q)) m → ProcessBehaves p q → IsSequential q
       → has_words e ≡ true → process_has_words q ≡ true → IsPlaced p s env → shape m.entries ≡ shape s.known.entries
       → begun_with m.blocks ≤ length m.entries → begun_with (after.chosen e m).blocks ≤ length m.entries
       → IsTrueIn m.entries env
       → ChoiceMeans p.code (FitsIn p) s.frame env (CarriedAt p s turns env) (Left p s turns env)
       (placed (surroundings p) (Chosen line e q) m) (doing_choice p.ports (Chosen line e q) env)
-  choice_means position line e q s turns env m reached behaves sequential literals words there same low chosen_low holds =
-      let right = places_hold p.items (standing p position) (AComponent (Chosen line e q)) m none reached in
+  choice_means line e q s turns env m reached behaves sequential literals words there same low chosen_low holds =
+      let right = places_hold p.items (standing p) (AComponent (Chosen line e q)) m none reached in
       let fit_e = right.holds.1 in
       let y = after.chosen e m in
       let narrowed = shapes_stay.narrowing m.entries e true in
@@ -157,7 +157,7 @@ module _ (p : Program) (none : BreaksNoRule p.items) (conditions : ConditionsPus
         is = refl;
         shows = λ value truth_is fit h carries.
             let sx = at_place m 0 s in
-            let x = shown position line e q sx turns env value h reached
+            let x = shown line e q sx turns env value h reached
             (placed_alike p s m 0 env env there same low holds) literals truth_is fit
             (carried_alike p s m 0 turns env h.memory same carries) in
             record {
@@ -175,26 +175,26 @@ module _ (p : Program) (none : BreaksNoRule p.items) (conditions : ConditionsPus
             let inner = placed_alike p s y label env env there alike (omega (arith, chosen_low, long)) known in
             pieces_as p.code (λ x carries. carried_alike p s y label turns env x alike carries)
             (λ e x left. left_alike p s y label turns env e x alike left)
-            (behaves.behaves position (length y.entries) sy turns env code
-            (to_process (standing p position) (Chosen line e q) m reached) sequential words inner is fit);
+            (behaves.behaves (length y.entries) sy turns env code
+            (to_process (standing p) (Chosen line e q) m reached) sequential words inner is fit);
         always = λ is. true_holds env e is;
         skips = λ is. skips_leave p.ports env q is;
       }
 
   -- ---- choices
 
-  pub choices_mean : {part : Part} (position : Position) (cs : Components part) (s : Site) (turns : ℕ → ℤ)
+  pub choices_mean : {part : Part} (cs : Components part) (s : Site) (turns : ℕ → ℤ)
       (env : Environment)
       → ((piece : Piece) (m : Known) → StandsAmong p.around (Mark mark.If) cs (begin s.known) piece m
-      → Reaches p.items (standing p position) piece m)
+      → Reaches p.items (standing p) piece m)
       → EachBehaves p cs → IsMadeOf (Mark mark.If) part → AreSequential (Mark mark.If) cs
       → components_have_words cs ≡ true → IsPlaced p s env
       → ChoicesMean p.code (FitsIn p) s.frame env (CarriedAt p s turns env) (Left p s turns env)
       (placed_choices (surroundings p) cs (begin s.known)) (doing_first p.ports cs env)
       × (doing_first p.ports cs env ≡ None
       → IsTrueIn (after_components p.around (Mark mark.If) cs (begin s.known)).entries env)
-  choices_mean position NoComponent s turns env reach each made sequential words there = (refl, λ no. there.holds)
-  choices_mean position (Further cs (Chosen line e q)) s turns env reach each made sequential words there =
+  choices_mean NoComponent s turns env reach each made sequential words there = (refl, λ no. there.holds)
+  choices_mean (Further cs (Chosen line e q)) s turns env reach each made sequential words there =
       let a = p.around in
       let c = Chosen line e q in
       let k = s.known in
@@ -211,11 +211,11 @@ module _ (p : Program) (none : BreaksNoRule p.items) (conditions : ConditionsPus
       let narrow_long = long_alike y.entries h.start (shapes_stay.narrowing h.start e true) in
       let first = doing_first p.ports cs env in
       let next_is = doing_choice p.ports c env in
-      let before = choices_mean position cs s turns env (λ piece z among. reach piece z (inr among)) each.0 made
+      let before = choices_mean cs s turns env (λ piece z among. reach piece z (inr among)) each.0 made
       sequential.0 all.0 there in
       let reached = reach (AComponent c) m (inl (refl, refl)) in
       let stays = ranges_stay.processes a q y (omega (arith, excluded_long, narrow_long)) in
-      let here = subst (Reaches p.items (standing p position) (AComponent c)) h.is reached in
+      let here = subst (Reaches p.items (standing p) (AComponent c)) h.is reached in
       let known : first ≡ None → IsTrueIn h.start env =
       λ no. subst (λ (z : Known). IsTrueIn z.entries env) h.is (before.1 no) in (
         (
@@ -225,14 +225,14 @@ module _ (p : Program) (none : BreaksNoRule p.items) (conditions : ConditionsPus
           λ no. subst (λ (z : Known).
               ChoiceMeans p.code (FitsIn p) s.frame env (CarriedAt p s turns env) (Left p s turns env)
               (placed (surroundings p) c z) next_is) (sym h.is)
-              (choice_means position line e q s turns env x here each.1 sequential.1 both.0 both.1 there alike (omega arith)
+              (choice_means line e q s turns env x here each.1 sequential.1 both.0 both.1 there alike (omega arith)
               (omega (arith, excluded_long)) (known no)),
           refl,
         ),
         λ no.
             let neither = else_none first next_is no in
             let start_true = known neither.0 in
-            let right = places_hold p.items (standing p position) (AComponent c) x none here in
+            let right = places_hold p.items (standing p) (AComponent c) x none here in
             subst (λ (z : Known). IsTrueIn (next (inside a q (after.chosen e z))).entries env) (sym h.is)
             (subst (λ (z : Known). IsTrueIn z.entries env)
             (sym (chosen_next (changed_by a.signatures y.entries q) e h.start h.ends k.blocks x final refl stays))
@@ -240,6 +240,6 @@ module _ (p : Program) (none : BreaksNoRule p.items) (conditions : ConditionsPus
             start_true.meets)) start_true start_true.meets right.holds.1.type_is
             (chosen_none Fails (doing p.ports q env) (truth_of env e) neither.1))),
       )
-  choices_mean position (Further cs (Plain q)) s turns env reach each made sequential words there = absurd sequential.1
-  choices_mean position (Further cs (Guarded line g q)) s turns env reach each made sequential words there =
+  choices_mean (Further cs (Plain q)) s turns env reach each made sequential words there = absurd sequential.1
+  choices_mean (Further cs (Guarded line g q)) s turns env reach each made sequential words there =
       absurd sequential.1

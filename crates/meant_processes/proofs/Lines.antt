@@ -64,18 +64,18 @@ action_lies c at_row at to f es label (Instance name actuals) code is lie = absu
 
 -- an action that is no instance
 action_behaves : (p : Program) → BreaksNoRule p.items → p.code.footing.depth ≡ 0 → ChannelsArePorts p
-    → (position : Position) (first line : ℕ) (action : Action) (s : Site) (turns : ℕ → ℤ) (env : Environment) (c : Code)
-    → Reaches p.items (standing p position) (AProcess first (Does line (Act action))) s.known → IsPlaced p s env
+    → (first line : ℕ) (action : Action) (s : Site) (turns : ℕ → ℤ) (env : Environment) (c : Code)
+    → Reaches p.items (standing p) (AProcess first (Does line (Act action))) s.known → IsPlaced p s env
     → IsSequentialAction action → action_has_words action ≡ true
     → action_code s.frame s.known.entries s.label action ≡ Some c → AllFit p c.pieces
     → PiecesBehave p.code (CarriedAt p s turns env) c.pieces (CarriedAt p s turns) (acting p.ports action env)
-action_behaves p none root ports position first line action s turns env c reached there sequential words is fit = record {
+action_behaves p none root ports first line action s turns env c reached there sequential words is fit = record {
   behaves = λ at_row at to h lie inside begins.
       let es = s.known.entries in
       let g = ground p s.frame.homes turns in
       let few = begins.carries.frame.few in
       let room = begins.carries.room in
-      let right = places_hold p.items (standing p position) (AProcess first (Does line (Act action))) s.known none reached
+      let right = places_hold p.items (standing p) (AProcess first (Does line (Act action))) s.known none reached
       in
       let ready = checked_actions_are_ready g s.frame.top es env p.ports p.around.signatures action
       (omega (arith, few, room))
@@ -87,7 +87,7 @@ action_behaves p none root ports position first line action s turns env c reache
         references = λ name type range means. no_references es name type range there.own means;
         arrays = λ name type size range means.
             arrays_housed s.frame.homes es name type size range there.housed means;
-      }) (ports position first line action s turns env reached there) right.holds words sequential in
+      }) (ports first line action s turns env reached there) right.holds words sequential in
       goes_on_behind p.code
       (actions_behave p.code g s.frame at to s.label es env h p.ports action c refl
       (record {
@@ -101,16 +101,16 @@ action_behaves p none root ports position first line action s turns env c reache
 }
 
 pub reached_lines_behave : ReachedLinesBehave
-reached_lines_behave p none root ports position first line Skip s turns env c reached there words is fit =
-    action_behaves p none root ports position first line Skip s turns env c reached there tt words is fit
-reached_lines_behave p none root ports position first line Stop s turns env c reached there words is fit =
-    action_behaves p none root ports position first line Stop s turns env c reached there tt words is fit
-reached_lines_behave p none root ports position first line (Assign target value) s turns env c reached there words is fit =
-    action_behaves p none root ports position first line (Assign target value) s turns env c reached there tt words is fit
-reached_lines_behave p none root ports position first line (Input channel target) s turns env c reached there words is fit =
-    action_behaves p none root ports position first line (Input channel target) s turns env c reached there tt words is fit
-reached_lines_behave p none root ports position first line (Output channel value) s turns env c reached there words is fit =
-    action_behaves p none root ports position first line (Output channel value) s turns env c reached there tt words is fit
-reached_lines_behave p none root ports position first line (Instance name actuals) s turns env c reached there words is
+reached_lines_behave p none root ports first line Skip s turns env c reached there words is fit =
+    action_behaves p none root ports first line Skip s turns env c reached there tt words is fit
+reached_lines_behave p none root ports first line Stop s turns env c reached there words is fit =
+    action_behaves p none root ports first line Stop s turns env c reached there tt words is fit
+reached_lines_behave p none root ports first line (Assign target value) s turns env c reached there words is fit =
+    action_behaves p none root ports first line (Assign target value) s turns env c reached there tt words is fit
+reached_lines_behave p none root ports first line (Input channel target) s turns env c reached there words is fit =
+    action_behaves p none root ports first line (Input channel target) s turns env c reached there tt words is fit
+reached_lines_behave p none root ports first line (Output channel value) s turns env c reached there words is fit =
+    action_behaves p none root ports first line (Output channel value) s turns env c reached there tt words is fit
+reached_lines_behave p none root ports first line (Instance name actuals) s turns env c reached there words is
     fit =
     record { behaves = λ at_row at to h lie inside begins. any }

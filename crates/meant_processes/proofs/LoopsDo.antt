@@ -98,7 +98,7 @@ no_links = record { incoming = []; written = [] }
 
 -- A loop at a site, whose index is called so and begins at the base, with so many turns, whose body changes these
 -- variables.
-module _ (p : Program) (none : BreaksNoRule p.items) (position : Position) (q : Process) (s : Site) (turns : ℕ → ℤ)
+module _ (p : Program) (none : BreaksNoRule p.items) (q : Process) (s : Site) (turns : ℕ → ℤ)
     (name : List ℕ) (base : ℤ) (count : ℕ) (indices : Ends) (ns : List ℕ) (env : Environment) where
   abbrev pub index : Meaning
   index = Scalar scalar.Index value_type.Int indices
@@ -120,7 +120,7 @@ module _ (p : Program) (none : BreaksNoRule p.items) (position : Position) (q : 
 
   -- what is known of the loop
   pub record Loop : Type 0 where
-    pub reached : Reaches p.items (standing p position) (AComponent (Plain q)) at_body
+    pub reached : Reaches p.items (standing p) (AComponent (Plain q)) at_body
     pub behaves : ProcessBehaves p q
     pub sequential : IsSequential q
     pub words : process_has_words q ≡ true
@@ -269,10 +269,10 @@ module _ (p : Program) (none : BreaksNoRule p.items) (position : Position) (q : 
           let opened = loop_opened p s.frame.homes turns s.frame.top s.label (widen ns s.known.entries) e name indices
           (base +ℤ pos k) (pos (count - k)) h.memory holds.meets (x.there.long ∙ sym wide_long) x.room begins.1.index
           begins.1.count (carried_wide e h.memory begins.0) in
-          let here = to_process (standing p position) (Plain q) at_body x.reached in
-          let run = x.behaves.behaves position (length at_body.entries) body_site left_turns inner body here x.sequential
+          let here = to_process (standing p) (Plain q) at_body x.reached in
+          let run = x.behaves.behaves (length at_body.entries) body_site left_turns inner body here x.sequential
           x.words placed is fit in
-          let known = process_true p position (length at_body.entries) q body_site inner none here x.sequential x.words
+          let known = process_true p (length at_body.entries) q body_site inner none here x.sequential x.words
           placed in
           (pieces_left p.code (length env) (λ after m came. turn_left k e after m h.memory less begins came.0 came.1)
           (pieces_well p.code (IsTrueIn (outermost (length at_body.entries) (inside p.around q at_body).entries)) run

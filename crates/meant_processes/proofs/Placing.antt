@@ -48,27 +48,27 @@ Left p s turns env after m = CarriedAt p s turns after m × IndicesStay (shape s
 
 -- ---- what is true after a process
 
-pub stands_there : (p : Program) (position : Position) (s : Site) (env : Environment) (listens : List Bool)
+pub stands_there : (p : Program) (s : Site) (env : Environment) (listens : List Bool)
     → IsPlaced p s env
-    → Stands (record { ports = p.ports; listens = listens }) (standing p position) s.known env
-stands_there p position s env listens placed = record {
+    → Stands (record { ports = p.ports; listens = listens }) (standing p) s.known env
+stands_there p s env listens placed = record {
   counted = placed.counted;
   main = record { own = placed.own; ports = placed.channels };
   low = placed.low;
   holds = placed.holds;
 }
 
-pub process_true : (p : Program) (position : Position) (first : ℕ) (process : Process) (s : Site) (env : Environment)
-    → BreaksNoRule p.items → Reaches p.items (standing p position) (AProcess first process) s.known
+pub process_true : (p : Program) (first : ℕ) (process : Process) (s : Site) (env : Environment)
+    → BreaksNoRule p.items → Reaches p.items (standing p) (AProcess first process) s.known
     → IsSequential process → process_has_words process ≡ true → IsPlaced p s env
     → WhatLeaves (IsTrueIn (outermost (length s.known.entries) (inside p.around process s.known).entries))
     (doing p.ports process env)
-process_true p position first process s env none reached sequential words placed =
+process_true p first process s env none reached sequential words placed =
     let final = outermost (length s.known.entries) (inside p.around process s.known).entries in
     all_leaves (IsTrueIn final) (doing p.ports process env)
     (leaves_are_true.running final p.ports process env (λ listens l.
-    (processes_go_well p.items (record { ports = p.ports; listens = listens }) process none).well (standing p position)
-    first s.known env l reached sequential words (stands_there p position s env listens placed)))
+    (processes_go_well p.items (record { ports = p.ports; listens = listens }) process none).well (standing p)
+    first s.known env l reached sequential words (stands_there p s env listens placed)))
 
 -- ---- another place with the same frame
 

@@ -22,8 +22,8 @@ module _ (p : Program) (none : BreaksNoRule p.items) (lines : LinesBehave p) whe
     process_does (Declared d q) other =
         declared_behaves p none d q (declaration_opens p none d other.0) (process_does q other.1)
     process_does (Does line c) other = record {
-      behaves = λ position first s turns env code reached sequential words there is fit.
-          (construct_does c other).behaves position first line s turns env code reached sequential words there is fit;
+      behaves = λ first s turns env code reached sequential words there is fit.
+          (construct_does c other).behaves first line s turns env code reached sequential words there is fit;
     }
 
     construct_does : (c : Construct) → HasNoChannel c → ConstructBehaves p c
@@ -43,7 +43,7 @@ module _ (p : Program) (none : BreaksNoRule p.items) (lines : LinesBehave p) whe
     component_does (Guarded line g q) other = process_does q other
 
 pub processes_behave : ProcessesBehave
-processes_behave p process none sequential words other root ports position first s turns env c reached there is fit =
+processes_behave p process none sequential words other root ports first s turns env c reached there is fit =
     pieces_as p.code (λ m carries. carries) (λ e m left. left.0)
-    ((process_does p none (reached_lines_behave p none root ports) process other).behaves position first s turns env c
+    ((process_does p none (reached_lines_behave p none root ports) process other).behaves first s turns env c
     reached sequential words there is fit)

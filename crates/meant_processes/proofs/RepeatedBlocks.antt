@@ -181,13 +181,13 @@ module _ (p : Program) (none : BreaksNoRule p.items) (conditions : ConditionsPus
       ap (λ t. t && int_le (base +ℤ pos zero) (greatest_word +ℤ pos 1)) no
 
   -- the choices of a replicated IF that happens
-  if_choices : (line : ℕ) (e : Expression) (q : Process) (position : Position) (counted : Bool) → counted ≡ true
+  if_choices : (line : ℕ) (e : Expression) (q : Process) (counted : Bool) → counted ≡ true
       → (r : Replicator) (n : ℕ) (s : Site) (turns : ℕ → ℤ) (env : Environment) (after : Known) (c : Code)
       → has_words e ≡ true → process_has_words q ≡ true → ProcessBehaves p q → IsSequential q → (base : ℤ)
       → value_as s.known.entries types.Int r.base ≡ Some base
       → ((i : ℕ) → i < suc n → is_word (base +ℤ pos i) ≡ true) → IsPlaced p s env
       → ((i : ℕ) → i < (repeats_of counted s.known.entries false r).turns.count
-      → Reaches p.items (standing p position) (AComponent (Chosen line e q))
+      → Reaches p.items (standing p) (AComponent (Chosen line e q))
       (with_entries (add r.name (index_in (repeats_of counted s.known.entries false r) i))
       (turn_by_turn (λ n l. after_component p.around (Mark mark.If) (Chosen line e q)
       (with_entries (add r.name (index_in (repeats_of counted s.known.entries false r) n)) l)) i (begin s.known))))
@@ -199,7 +199,7 @@ module _ (p : Program) (none : BreaksNoRule p.items) (conditions : ConditionsPus
       → AllFit p c.pieces
       → PiecesBehave p.code (CarriedAt p s turns env) c.pieces (Left p s turns env)
       (BodyDoing (Mark mark.If) (Chosen line e q) r.name base (suc n) env)
-  if_choices line e q position counted is_counted r n s turns env after c literals words behaves seq base base_is word there reach
+  if_choices line e q counted is_counted r n s turns env after c literals words behaves seq base base_is word there reach
       times_is is fit =
       let f = with_home Nowhere s.frame in
       let choices : ℕ → PlacedChoices = λ m. in_each_turn
@@ -208,16 +208,16 @@ module _ (p : Program) (none : BreaksNoRule p.items) (conditions : ConditionsPus
       let found = turn_by_turn (λ i before_it. else_doing before_it
       (option_map (leaves (length env)) (doing_choice p.ports (Chosen line e q) (with_index r.name base i env)))) (suc n)
       None in
-      let reach_all : (i : ℕ) → i < suc n → Reaches p.items (standing p position) (AComponent (Chosen line e q))
+      let reach_all : (i : ℕ) → i < suc n → Reaches p.items (standing p) (AComponent (Chosen line e q))
       (with_entries (add r.name (index_in (repeats_of true s.known.entries false r) i))
       (turn_by_turn (λ n l. after_component p.around (Mark mark.If) (Chosen line e q)
       (with_entries (add r.name (index_in (repeats_of true s.known.entries false r) n)) l)) i (begin s.known))) =
-      λ i less. subst (λ b. Reaches p.items (standing p position) (AComponent (Chosen line e q))
+      λ i less. subst (λ b. Reaches p.items (standing p) (AComponent (Chosen line e q))
       (with_entries (add r.name (index_in (repeats_of b s.known.entries false r) i))
       (turn_by_turn (λ n l. after_component p.around (Mark mark.If) (Chosen line e q)
       (with_entries (add r.name (index_in (repeats_of b s.known.entries false r) n)) l)) i (begin s.known))))
       is_counted (reach i (omega (arith, less, times_is))) in
-      let mean = turns_mean p none conditions position line e q s turns env r.name r base (suc n) (suc n) (omega arith)
+      let mean = turns_mean p none conditions line e q s turns env r.name r base (suc n) (suc n) (omega arith)
       base_is reach_all word behaves seq literals words there in
       if_behaves p s f after turns env (with_ending (choices (suc n))) found c there
       (ending_means p.code (FitsIn p) f env (CarriedAt p s turns env) (Left p s turns env) (choices (suc n)) found mean.0)
@@ -228,12 +228,12 @@ module _ (p : Program) (none : BreaksNoRule p.items) (conditions : ConditionsPus
       (repeats_of b s.known.entries false r) (begin s.known) n))
       (repeats_of b s.known.entries false r).turns.count)) ≡ Some c) is_counted is)) fit
 
-  body_by : {part : Part} (word : Terminal) (body : Component part) (position : Position) (counted : Bool)
+  body_by : {part : Part} (word : Terminal) (body : Component part) (counted : Bool)
       (r : Replicator) (count : ℤ) (s : Site) (turns : ℕ → ℤ) (env : Environment) (after : Known) (c : Code)
       → counted ≡ true → IsSequentialComponent word body → component_has_words body ≡ true → ProcessBehaves p (process_of body)
       → (h : ReplicatorHolds s.known.entries r) → h.count ≡ count → FitsSigned w32 h.base → FitsSigned w32 count
       → ((n : ℕ) → n < (repeats_of counted s.known.entries (is_seq word) r).turns.count
-      → Reaches p.items (standing p position) (AComponent body)
+      → Reaches p.items (in_block word s.known (standing p)) (AComponent body)
       (turn_begins p.around word body r.name (repeats_of counted s.known.entries (is_seq word) r)
       (changed_by_component p.around.signatures (add r.name (index_meaning (is_seq word) None) s.known.entries) body)
       (repeats_of counted s.known.entries (is_seq word) r).happens s.known n))
@@ -243,14 +243,14 @@ module _ (p : Program) (none : BreaksNoRule p.items) (conditions : ConditionsPus
       → AllFit p c.pieces
       → PiecesBehave p.code (CarriedAt p s turns env) c.pieces (Left p s turns env)
       (BodyDoing word body r.name h.base (running.turns count) env)
-  body_by word body position counted r (negsuc n) s turns env after c is_counted seq words behaves h count base_fits fits
+  body_by word body counted r (negsuc n) s turns env after c is_counted seq words behaves h count base_fits fits
       reach there is fit =
       absurd (cc (ap (λ z. int_le (pos 0) z && fits_word (Some h.base) z) (sym count) ∙ h.fits))
-  body_by (Mark mark.Seq) (Plain q) position counted r (pos zero) s turns env after c is_counted seq words behaves h count
+  body_by (Mark mark.Seq) (Plain q) counted r (pos zero) s turns env after c is_counted seq words behaves h count
       base_fits fits reach there is fit =
       no_turns (has_scalar (changed_by p.around.signatures (add r.name (index_meaning true None) s.known.entries) q)
       s.known.entries) s after turns env c there is
-  body_by (Mark mark.Seq) (Plain q) position counted r (pos (suc n)) s turns env after c is_counted seq words behaves h
+  body_by (Mark mark.Seq) (Plain q) counted r (pos (suc n)) s turns env after c is_counted seq words behaves h
       count base_fits fits reach there is fit = record {
         behaves = λ at_row at to held lie inside_code begins.
             let a = p.around in
@@ -275,7 +275,7 @@ module _ (p : Program) (none : BreaksNoRule p.items) (conditions : ConditionsPus
             let most = begins.carries.frame.few in
             (subst (λ ps. PiecesBehave p.code (CarriedAt p s turns env) ps (Left p s turns env)
             (BodyDoing (Mark mark.Seq) (Plain q) r.name h.base (suc n) env)) (sym whole)
-            (loop_does p none position q s turns r.name h.base (suc n) indices ns env (record {
+            (loop_does p none q s turns r.name h.base (suc n) indices ns env (record {
               reached = reach 0 (omega arith);
               behaves = behaves;
               sequential = seq;
@@ -297,7 +297,7 @@ module _ (p : Program) (none : BreaksNoRule p.items) (conditions : ConditionsPus
             (all_first (FitsIn p) d.first.pieces last (all_last (FitsIn p) start (row ∷ (d.first.pieces ++ last)) fits_all).1)
             begins.carries.frame.workspace)).behaves at_row at to held lie inside_code begins;
       }
-  body_by (Mark mark.If) (Chosen line e q) position counted r (pos zero) s turns env after c is_counted seq words behaves
+  body_by (Mark mark.If) (Chosen line e q) counted r (pos zero) s turns env after c is_counted seq words behaves
       h count base_fits fits reach there is fit =
       let es = s.known.entries in
       let none_is : value_as es types.Int r.count ≡ Some (pos zero) = h.count_is ∙ ap Some count in
@@ -311,7 +311,7 @@ module _ (p : Program) (none : BreaksNoRule p.items) (conditions : ConditionsPus
       (repeats_of counted es false r) (begun_body (Mark mark.If) (changed_by_component p.around.signatures
       (add r.name (index_meaning false None) es) (Chosen line e q)) b s.known) n))
       (cond b (repeats_of counted es false r).turns.count 0))) ≡ Some c) no is) fit
-  body_by (Mark mark.If) (Chosen line e q) position counted r (pos (suc n)) s turns env after c is_counted seq words
+  body_by (Mark mark.If) (Chosen line e q) counted r (pos (suc n)) s turns env after c is_counted seq words
       behaves h count base_fits fits reach there is fit =
       let a = p.around in
       let es = s.known.entries in
@@ -326,16 +326,16 @@ module _ (p : Program) (none : BreaksNoRule p.items) (conditions : ConditionsPus
       (λ i. (turns_from (is_counted i) (h.base_is i) (count_is i)).count)
       ∙ ap (λ b. cond b (unsigned_abs (pos (suc n))) 1) more in
       let both = and_parts (has_words e) (process_has_words q) words in
-      if_choices line e q position counted is_counted r n s turns env after c both.0 both.1 behaves seq h.base h.base_is (λ i less. turn_word h.base i (suc n) holds less) there
+      if_choices line e q counted is_counted r n s turns env after c both.0 both.1 behaves seq h.base h.base_is (λ i less. turn_word h.base i (suc n) holds less) there
       (subst (λ b. (i : ℕ) → i < (repeats_of counted es false r).turns.count
-      → Reaches p.items (standing p position) (AComponent body)
+      → Reaches p.items (standing p) (AComponent body)
       (turn_begins a (Mark mark.If) body r.name (repeats_of counted es false r) ns b s.known i)) happens_is reach)
       times_is
       (subst (λ b. if_code s (with_home Nowhere s.frame) after (with_ending (in_each_turn
       (λ n. placed (surroundings p) body (turn_begun a (Mark mark.If) r.name body
       (repeats_of counted es false r) (begun_body (Mark mark.If) ns b s.known) n))
       (cond b (repeats_of counted es false r).turns.count 0))) ≡ Some c) happens_is is) fit
-  body_by word body position counted r (pos n) s turns env after c is_counted seq words behaves h count base_fits fits reach
+  body_by word body counted r (pos n) s turns env after c is_counted seq words behaves h count base_fits fits reach
       there is fit =
       absurd seq
 
@@ -344,10 +344,10 @@ module _ (p : Program) (none : BreaksNoRule p.items) (conditions : ConditionsPus
   pub repeated_behaves : (r : Replicator) (kind : _) (body : Component (part_of kind)) → ProcessBehaves p (process_of body)
       → ConstructBehaves p (Replicated r (One kind body))
   repeated_behaves r kind body behaves = record {
-    behaves = λ position first line s turns env c reached sequential words there is fit.
+    behaves = λ first line s turns env c reached sequential words there is fit.
         let word = block_word kind in
         let a = p.around in
-        let t = standing p position in
+        let t = standing p in
         let u = in_block word s.known t in
         let es = s.known.entries in
         let whole = Replicated r (One kind body) in
@@ -370,7 +370,7 @@ module _ (p : Program) (none : BreaksNoRule p.items) (conditions : ConditionsPus
         doing_body p.ports (One kind body) r.name x (running.turns y) env)))) (sym base)
         (subst (λ o. PiecesBehave p.code (CarriedAt p s turns env) c.pieces (Left p s turns env)
         (or_fails o (λ y. doing_body p.ports (One kind body) r.name h.base (running.turns y) env))) (sym count)
-        (body_by word body u.position counted r h.count s turns env after c (ap (is_before line) there.counted) sequential
+        (body_by word body counted r h.count s turns env after c (ap (is_before line) there.counted) sequential
         all.1 behaves h refl (word_value es env r.base h.base there.holds both.0 h.base_is)
         (word_value es env r.count h.count there.holds both.1 h.count_is)
         (λ n less. to_part t u first line whole (AComponent body) s.known _ reached (n, refl, refl, less, refl)) there code

@@ -71,7 +71,7 @@ map_none : (n : ℕ) (o : Option Doing) → option_map (leaves n) o ≡ None →
 map_none n None is = refl
 map_none n (Some t) is = absurd (cc is)
 
-module _ (p : Program) (none : BreaksNoRule p.items) (conditions : ConditionsPush p) (position : Position) (line : ℕ)
+module _ (p : Program) (none : BreaksNoRule p.items) (conditions : ConditionsPush p) (line : ℕ)
     (e : Expression) (q : Process) (s : Site) (turns : ℕ → ℤ) (env : Environment) (name : List ℕ) where
   -- a place in a turn: the index has no word
   abbrev pub in_turn : Known → ℕ → Site
@@ -162,7 +162,7 @@ module _ (p : Program) (none : BreaksNoRule p.items) (conditions : ConditionsPus
 
   -- The choice in a turn does what it means.
   turn_means : (o : Option ℤ) (v : ℤ) (start : List Entry) (blocks : List moves.Block) → o ≡ Some v → FitsSigned w32 v
-      → Reaches p.items (standing p position) (AComponent (Chosen line e q)) (entered o start blocks)
+      → Reaches p.items (standing p) (AComponent (Chosen line e q)) (entered o start blocks)
       → ProcessBehaves p q → IsSequential q → has_words e ≡ true → process_has_words q ≡ true → IsPlaced p s env
       → shape start ≡ shape s.known.entries → begun_with blocks ≤ length (entered o start blocks).entries
       → begun_with (after.chosen e (entered o start blocks)).blocks ≤ length (entered o start blocks).entries
@@ -176,7 +176,7 @@ module _ (p : Program) (none : BreaksNoRule p.items) (conditions : ConditionsPus
       let site = in_turn k 0 in
       let known = turn_true o v start is fits holds in
       let at_k = turn_placed o v start blocks is fits there same low holds in
-      let right = places_hold p.items (standing p position) (AComponent (Chosen line e q)) k none reached in
+      let right = places_hold p.items (standing p) (AComponent (Chosen line e q)) k none reached in
       let y = after.chosen e k in
       let narrowed = shapes_stay.narrowing k.entries e true in
       let long = long_alike y.entries k.entries narrowed in
@@ -185,7 +185,7 @@ module _ (p : Program) (none : BreaksNoRule p.items) (conditions : ConditionsPus
         process = leaves (length env) (doing p.ports q inner);
         is = choice_left (length env) (doing p.ports q inner) (truth_of inner e);
         shows = λ value truth_is fit h carries.
-            let x = shown p none conditions position line e q site turns inner value h reached at_k literals truth_is
+            let x = shown p none conditions line e q site turns inner value h reached at_k literals truth_is
             fit
             (turn_carried o v start blocks h.memory there same holds carries) in
             record {
@@ -206,8 +206,8 @@ module _ (p : Program) (none : BreaksNoRule p.items) (conditions : ConditionsPus
               (pieces_left p.code (length env)
               (λ x m left. turn_left o v start blocks m h.memory x there same holds begins
               (left_alike p site y label turns inner x m narrowed left))
-              (behaves.behaves position (length y.entries) sy turns inner code
-              (to_process (standing p position) (Chosen line e q) k reached) sequential words at_y code_is fit)).behaves at_row at to h lie inside_code
+              (behaves.behaves (length y.entries) sy turns inner code
+              (to_process (standing p) (Chosen line e q) k reached) sequential words at_y code_is fit)).behaves at_row at to h lie inside_code
               (carried_alike p site y label turns inner h.memory narrowed
               (turn_carried o v start blocks h.memory there same holds begins));
         };
@@ -231,7 +231,7 @@ module _ (p : Program) (none : BreaksNoRule p.items) (conditions : ConditionsPus
         (option_map (leaves (length env)) (doing_choice p.ports (Chosen line e q) (with_index name base n env)))) n None
 
     pub turns_mean : (n : ℕ) → n ≤ count → value_as s.known.entries types.Int r.base ≡ Some base
-        → ((i : ℕ) → i < count → Reaches p.items (standing p position) (AComponent (Chosen line e q))
+        → ((i : ℕ) → i < count → Reaches p.items (standing p) (AComponent (Chosen line e q))
         (with_entries (add name (index_in repeats i)) (turn_by_turn step i (begin s.known))))
         → ((i : ℕ) → i < count → is_word (base +ℤ pos i) ≡ true) → ProcessBehaves p q → IsSequential q
         → has_words e ≡ true → process_has_words q ≡ true → IsPlaced p s env
@@ -262,7 +262,7 @@ module _ (p : Program) (none : BreaksNoRule p.items) (conditions : ConditionsPus
         let alike = within_shape all h.start k.entries h.starts in
         let y = after.chosen e x in
         let final = inside a q y in
-        let here = subst (λ (z : Known). Reaches p.items (standing p position) (AComponent c)
+        let here = subst (λ (z : Known). Reaches p.items (standing p) (AComponent c)
         (with_entries (add name (index_in repeats n)) z)) h.is (reach n less) in
         let rest_long = long_alike (excluded e x.entries h.start) h.start (shapes_stay.excluding x.entries h.start e) in
         let narrow_long = long_alike y.entries x.entries (shapes_stay.narrowing x.entries e true) in
@@ -287,7 +287,7 @@ module _ (p : Program) (none : BreaksNoRule p.items) (conditions : ConditionsPus
           λ no.
               let neither = else_none (found n) choice no in
               let start_true = known neither.0 in
-              let right = places_hold p.items (standing p position) (AComponent c) x none here in
+              let right = places_hold p.items (standing p) (AComponent c) x none here in
               subst (λ (z : Known). IsTrueIn (step n z).entries env) (sym h.is)
               (subst (λ (z : Known). IsTrueIn z.entries env)
               (sym (chosen_next (changed_by a.signatures y.entries q) e h.start h.ends k.blocks x final refl stays))

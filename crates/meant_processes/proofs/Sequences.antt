@@ -59,15 +59,15 @@ use Rattle.meant_processes.proofs.Placing.{placed_behind, process_true}
 
 -- From each place that is reached, the code of a process behaves, and leaves indices as they were.
 pub record ProcessBehaves (p : Program) (process : Process) : Type 0 where
-  pub behaves : (position : Position) (first : ℕ) (s : Site) (turns : ℕ → ℤ) (env : Environment) (c : Code)
-      → Reaches p.items (standing p position) (AProcess first process) s.known → IsSequential process
+  pub behaves : (first : ℕ) (s : Site) (turns : ℕ → ℤ) (env : Environment) (c : Code)
+      → Reaches p.items (standing p) (AProcess first process) s.known → IsSequential process
       → process_has_words process ≡ true → IsPlaced p s env → process_code (surroundings p) process s ≡ Some c
       → AllFit p c.pieces
       → PiecesBehave p.code (CarriedAt p s turns env) c.pieces (Left p s turns env) (doing p.ports process env)
 
 pub record ConstructBehaves (p : Program) (construct : Construct) : Type 0 where
-  pub behaves : (position : Position) (first line : ℕ) (s : Site) (turns : ℕ → ℤ) (env : Environment) (c : Code)
-      → Reaches p.items (standing p position) (AProcess first (Does line construct)) s.known
+  pub behaves : (first line : ℕ) (s : Site) (turns : ℕ → ℤ) (env : Environment) (c : Code)
+      → Reaches p.items (standing p) (AProcess first (Does line construct)) s.known
       → IsSequentialConstruct construct → construct_has_words construct ≡ true → IsPlaced p s env
       → construct_code (surroundings p) line construct s ≡ Some c → AllFit p c.pieces
       → PiecesBehave p.code (CarriedAt p s turns env) c.pieces (Left p s turns env)
@@ -131,12 +131,12 @@ module _ (p : Program) (none : BreaksNoRule p.items) where
   pub declared_behaves : (d : Declaration) (q : Process) → DeclarationOpens p d → ProcessBehaves p q
       → ProcessBehaves p (Declared d q)
   declared_behaves d q opens behaves = record {
-    behaves = λ position first s turns env c reached sequential words placed is fit. record {
+    behaves = λ first s turns env c reached sequential words placed is fit. record {
       behaves = λ at_row at to h lie inside_code begins.
           let es = s.known.entries in
           let decl = declaration_code es d s.frame.top in
           let si = with_declaration d s in
-          let right = places_hold p.items (standing p position) (AProcess first (Declared d q)) s.known none reached in
+          let right = places_hold p.items (standing p) (AProcess first (Declared d q)) s.known none reached in
           let both = and_parts (declaration_has_words d) (process_has_words q) words in
           let b = before_is decl (process_code (surroundings p) q si) c is in
           let fits = subst (AllFit p) b.pieces fit in
@@ -144,13 +144,13 @@ module _ (p : Program) (none : BreaksNoRule p.items) where
           (subst (λ ps. LieApart p.code at_row at ps to) b.pieces lie) in
           by_value (declare d env) (λ inner. leaves (length env) (doing p.ports q inner))
           (λ inner declares.
-          let o = opens position first q s turns env inner h reached placed both.0 declares
+          let o = opens first q s turns env inner h reached placed both.0 declares
           (all_first (FitsIn p) decl b.rest.pieces fits) begins in
           let entered = placed_behind p s d env inner placed right.holds both.0 declares
           (record { long = placed.long; rise = begins.carries.rise })
           (let few = o.carries.carries.frame.few in let room = o.carries.carries.room in omega (arith, few, room)) in
-          let run = behaves.behaves position first si turns inner b.rest
-          (behind (standing p position) first d q s.known reached) sequential both.1 entered b.is
+          let run = behaves.behaves first si turns inner b.rest
+          (behind (standing p) first d q s.known reached) sequential both.1 entered b.is
           (all_last (FitsIn p) decl b.rest.pieces fits) in
           steps_behave p.code
           (straight_goes p.code
@@ -165,17 +165,17 @@ module _ (p : Program) (none : BreaksNoRule p.items) where
 
   pub act_behaves : (action : Action) → LinesBehave p → ConstructBehaves p (Act action)
   act_behaves action lines = record {
-    behaves = λ position first line s turns env c reached sequential words placed is fit.
+    behaves = λ first line s turns env c reached sequential words placed is fit.
         let w = surroundings p in
         let es = s.known.entries in
-        let right = places_hold p.items (standing p position) (AProcess first (Does line (Act action))) s.known none
+        let right = places_hold p.items (standing p) (AProcess first (Does line (Act action))) s.known none
         reached in
         let known = with_entries (after_action p.around.signatures action) s.known in
         let stays = action_leaves p.around.signatures es env p.ports action placed.holds.meets right.holds in
         by_row s env turns (is_finer s.frame.homes es s.frame.top action) known (line_code w action s) c is fit
         (λ code line_is fits.
         pieces_well p.code (IndicesStay (shape es) env)
-        (lines position first line action s turns env code reached placed words line_is fits) stays);
+        (lines first line action s turns env code reached placed words line_is fits) stays);
   }
     where
       by_row : (s : Site) (env : Environment) (turns : ℕ → ℤ) (finer : Bool) (known : Known) (o : Option Code)
@@ -201,21 +201,21 @@ module _ (p : Program) (none : BreaksNoRule p.items) where
   Followed cs s turns env after m = Left p s turns env after m
       × IsTrueIn (after_components p.around (Mark mark.Seq) cs s.known).entries after
 
-  pub components_behave : {part : Part} (position : Position) (cs : Components part) (s : Site) (turns : ℕ → ℤ)
+  pub components_behave : {part : Part} (cs : Components part) (s : Site) (turns : ℕ → ℤ)
       (env : Environment) (c : Code)
       → ((piece : Piece) (m : Known) → StandsAmong p.around (Mark mark.Seq) cs s.known piece m
-      → Reaches p.items (standing p position) piece m)
+      → Reaches p.items (standing p) piece m)
       → EachBehaves p cs → IsMadeOf (Mark mark.Seq) part → AreSequential (Mark mark.Seq) cs
       → components_have_words cs ≡ true → IsPlaced p s env → components_code (surroundings p) cs s ≡ Some c
       → AllFit p c.pieces
       → PiecesBehave p.code (CarriedAt p s turns env) c.pieces (Followed cs s turns env)
       (doing_components p.ports cs env)
-  components_behave {part} position NoComponent s turns env c reach each made sequential words placed is fit =
+  components_behave {part} NoComponent s turns env c reach each made sequential words placed is fit =
       subst (λ ps. PiecesBehave p.code (CarriedAt p s turns env) ps (Followed {part = part} NoComponent s turns env) (Leaves env))
       (sym (written_is [] s.label c is))
       (no_pieces p.code env (λ m carries.
       ((carries, indices_here s env placed), placed.holds)))
-  components_behave position (Further cs (Plain q)) s turns env c reach each made sequential words placed is fit =
+  components_behave (Further cs (Plain q)) s turns env c reach each made sequential words placed is fit =
       let a = p.around in
       let w = surroundings p in
       let m = after_components a (Mark mark.Seq) cs s.known in
@@ -224,7 +224,7 @@ module _ (p : Program) (none : BreaksNoRule p.items) where
       let remains = components_stay a ns (Mark mark.Seq) cs s.known made (covers_itself ns) placed.low in
       let low = remains_low ns s.known m remains placed.low in
       let same = within_shape ns m.entries s.known.entries remains.within in
-      let here = to_process (standing p position) (Plain q) m (reach (AComponent (Plain q)) m (inl (refl, refl))) in
+      let here = to_process (standing p) (Plain q) m (reach (AComponent (Plain q)) m (inl (refl, refl))) in
       let t = then_is (components_code w cs s) (λ label. component_code w (Plain q) (at_place m label s)) c is in
       let fits = subst (AllFit p) t.pieces fit in
       let sm = at_place m t.first.labels s in
@@ -232,7 +232,7 @@ module _ (p : Program) (none : BreaksNoRule p.items) where
       subst (λ ps. PiecesBehave p.code (CarriedAt p s turns env) ps (Followed (Further cs (Plain q)) s turns env)
       (doing_then (doing_components p.ports cs env) (doing_component p.ports (Plain q)))) (sym t.pieces)
       (pieces_both p.code (doing_component p.ports (Plain q))
-      (components_behave position cs s turns env t.first (λ piece x among. reach piece x (inr among)) each.0 made
+      (components_behave cs s turns env t.first (λ piece x among. reach piece x (inr among)) each.0 made
       sequential.0 both.0 placed t.first_is (all_first (FitsIn p) t.first.pieces t.last.pieces fits))
       (λ e. record {
         behaves = λ at_row at to h lie inside_code begins.
@@ -245,13 +245,13 @@ module _ (p : Program) (none : BreaksNoRule p.items) where
                   (sym (left_is (changed_by a.signatures m.entries q) m (inside a q m) stays low)) left.1,
             ))
             (pieces_well p.code (IsTrueIn (outermost (length m.entries) (inside a q m).entries))
-            (each.1.behaves position (length m.entries) sm turns e t.last here sequential.1 both.1 there t.last_is
+            (each.1.behaves (length m.entries) sm turns e t.last here sequential.1 both.1 there t.last_is
             (all_last (FitsIn p) t.first.pieces t.last.pieces fits))
-            (process_true p position (length m.entries) q sm e none here sequential.1 both.1 there))).behaves
+            (process_true p (length m.entries) q sm e none here sequential.1 both.1 there))).behaves
             at_row at to h lie inside_code begins.0.0;
       }))
-  components_behave position (Further cs (Chosen line e q)) s turns env c reach each made sequential words placed is fit =
+  components_behave (Further cs (Chosen line e q)) s turns env c reach each made sequential words placed is fit =
       absurd sequential.1
-  components_behave position (Further cs (Guarded line g q)) s turns env c reach each made sequential words placed is
+  components_behave (Further cs (Guarded line g q)) s turns env c reach each made sequential words placed is
       fit =
       absurd sequential.1

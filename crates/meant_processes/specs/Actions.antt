@@ -13,9 +13,9 @@ use Rattle.meant_processes.specs.Premises.{LinesBehave}
 
 -- The channel of an action that is reached is a port.
 abbrev pub ChannelsArePorts : Program → Type 0
-ChannelsArePorts p = (position : Position) (first line : ℕ) (action : Action) (s : Site) (turns : ℕ → ℤ)
+ChannelsArePorts p = (first line : ℕ) (action : Action) (s : Site) (turns : ℕ → ℤ)
     (env : Environment)
-    → Reaches p.items (standing p position) (AProcess first (Does line (Act action))) s.known → IsPlaced p s env
+    → Reaches p.items (standing p) (AProcess first (Does line (Act action))) s.known → IsPlaced p s env
     → HasPort (ground p s.frame.homes turns) s.known.entries env p.ports action
 
 -- Then the code of lines behaves, in the root.

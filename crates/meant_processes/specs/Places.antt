@@ -23,11 +23,12 @@ use Rattle.meant_lines.specs.Carrying.{Ground, Carries}
 use Rattle.meant_lines.specs.Pushing.{StandsOn}
 use Rattle.meant_actions.specs.Bytes.{HasBytes}
 
--- The items of a program, what is around the process, the code of instances, the code that is laid out, with so many
+-- The items of a program, what is around the process and its position, the code of instances, the code that is laid out, with so many
 -- words in its frame and these pieces, and which declarations are links.
 pub record Program : Type 0 where
   pub items : List ProgramItem
   pub around : Around
+  pub position : Position
   pub calls : Calls
   pub code : LaidCode
   pub words : ℕ
@@ -37,8 +38,8 @@ pub record Program : Type 0 where
 abbrev pub surroundings : Program → Surroundings
 surroundings p = record { around = p.around; calls = p.calls }
 
-abbrev pub standing : Program → Position → Standing
-standing p position = record { around = p.around; position = position }
+abbrev pub standing : Program → Standing
+standing p = record { around = p.around; position = p.position }
 
 -- the ground under a process whose names have these homes, where loops have these turns left
 abbrev pub ground : Program → List Home → (ℕ → ℤ) → Ground

@@ -23,17 +23,17 @@ use Rattle.meant_processes.specs.Places.{Program, surroundings, standing, ground
 
 -- An action that is reached, and an instance that has code, behave as their tree.
 abbrev pub LinesBehave : Program → Type 0
-LinesBehave p = (position : Position) (first line : ℕ) (action : Action) (s : Site) (turns : ℕ → ℤ)
+LinesBehave p = (first line : ℕ) (action : Action) (s : Site) (turns : ℕ → ℤ)
     (env : Environment) (c : Code)
-    → Reaches p.items (standing p position) (AProcess first (Does line (Act action))) s.known → IsPlaced p s env
+    → Reaches p.items (standing p) (AProcess first (Does line (Act action))) s.known → IsPlaced p s env
     → action_has_words action ≡ true → line_code (surroundings p) action s ≡ Some c → AllFit p c.pieces
     → PiecesBehave p.code (CarriedAt p s turns env) c.pieces (CarriedAt p s turns) (acting p.ports action env)
 
 -- The code of a condition that is reached pushes its truth.
 abbrev pub ConditionsPush : Program → Type 0
-ConditionsPush p = (position : Position) (line : ℕ) (e : Expression) (process : Process) (s : Site) (turns : ℕ → ℤ)
+ConditionsPush p = (line : ℕ) (e : Expression) (process : Process) (s : Site) (turns : ℕ → ℤ)
     (env : Environment) (holds : Bool)
-    → Reaches p.items (standing p position) (AComponent (Chosen line e process)) s.known → IsPlaced p s env
+    → Reaches p.items (standing p) (AComponent (Chosen line e process)) s.known → IsPlaced p s env
     → has_words e ≡ true → s.frame.top ≤ MAX_DATA_WORDS → truth_of env e ≡ Some holds
     → Pushes (ground p s.frame.homes turns) s.frame.top s.known.entries env
     (expression_code s.frame.homes s.known.entries s.frame.top e) s.frame.top (is_leaf s.known.entries e)
@@ -48,9 +48,9 @@ pub record Opened (p : Program) (d : Declaration) (s : Site) (turns : ℕ → �
 
 -- So does that of a declaration, wherever it is reached.
 abbrev pub DeclarationOpens : Program → Declaration → Type 0
-DeclarationOpens p d = (position : Position) (first : ℕ) (process : Process) (s : Site) (turns : ℕ → ℤ)
+DeclarationOpens p d = (first : ℕ) (process : Process) (s : Site) (turns : ℕ → ℤ)
     (env inner : Environment) (h : Held)
-    → Reaches p.items (standing p position) (AProcess first (Declared d process)) s.known → IsPlaced p s env
+    → Reaches p.items (standing p) (AProcess first (Declared d process)) s.known → IsPlaced p s env
     → declaration_has_words d ≡ true → declare d env ≡ Some inner
     → AllFit p (declaration_code s.known.entries d s.frame.top) → CarriedAt p s turns env h.memory
     → Opened p d s turns inner h

@@ -18,8 +18,8 @@ use Rattle.meant_processes.specs.Actions.{ChannelsArePorts}
 -- From wherever its code lies among that of the program, where what is known is true and memory carries the
 -- environment, the process does what its meaning says, and memory carries what that leaves.
 abbrev pub ProcessMeans : Program → Process → Type 0
-ProcessMeans p process = (position : Position) (first : ℕ) (s : Site) (turns : ℕ → ℤ) (env : Environment) (c : Code)
-    → Reaches p.items (standing p position) (AProcess first process) s.known → IsPlaced p s env
+ProcessMeans p process = (first : ℕ) (s : Site) (turns : ℕ → ℤ) (env : Environment) (c : Code)
+    → Reaches p.items (standing p) (AProcess first process) s.known → IsPlaced p s env
     → process_code (surroundings p) process s ≡ Some c → AllFit p c.pieces
     → PiecesBehave p.code (CarriedAt p s turns env) c.pieces (CarriedAt p s turns) (doing p.ports process env)
 
