@@ -1,6 +1,7 @@
 pub mod Lying
 pub mod Indices
 pub mod Housed
+pub mod Linked
 pub mod Behaving
 pub mod CodeParts
 pub mod Choices

@@ -54,7 +54,7 @@ use Rattle.meant_lines.proofs.Words.{changes_both, changes_writing, frame_words_
 use Rattle.meant_actions.specs.Bytes.{HasBytes}
 use Rattle.meant_actions.proofs.Bytes.{bytes_stay}
 use Rattle.meant_processes.specs.Lying.{PiecesBehave}
-use Rattle.meant_processes.specs.Places.{AllFit, AreHoused, CarriedAt, IsPlaced, Program, ground, standing, surroundings}
+use Rattle.meant_processes.specs.Places.{AllFit, AreHoused, AreLinked, CarriedAt, IsPlaced, Program, ground, standing, surroundings}
 use Rattle.meant_processes.proofs.Behaving.{Led, pieces_well, straight_before}
 use Rattle.meant_processes.proofs.Carried.{left_below, left_here, loop_opened, scope_left, with_left}
 use Rattle.meant_processes.proofs.Housed.{housed_more}
@@ -193,6 +193,7 @@ module _ (p : Program) (none : BreaksNoRule p.items) (q : Process) (s : Site) (t
               (record { name = name; meaning = Scalar scalar.Index value_type.Int full })
               (shape (widen ns s.known.entries)) (long ∙ sym wide_long ∙ sym (shape_long (widen ns s.known.entries))) tt
               (subst (AreHoused s.frame.homes) (sym wide_alike) x.there.housed);
+          linked = (tt, subst (AreLinked p) (sym wide_alike) x.there.linked);
           low = omega arith;
           long = home_behind s.frame.homes (Block s.frame.top s.label) ∙ ap suc (long ∙ sym wide_long);
           holds = record {

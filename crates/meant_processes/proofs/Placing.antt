@@ -38,8 +38,10 @@ use Rattle.code_generator.specs.Processes.{Site, at_place, with_declaration}
 use Rattle.meant_lines.specs.Carrying.{HomesRise}
 use Rattle.meant_lines.proofs.Housing.{declared_homes_rise, get_before}
 use Rattle.meant_lines.proofs.Shapes.{same_shapes_carry}
-use Rattle.meant_processes.specs.Places.{AreHoused, CarriedAt, IsOwn, IsPlaced, Program, ground, standing}
+use Rattle.meant_processes.specs.Channels.{IsOfNoChannel}
+use Rattle.meant_processes.specs.Places.{AreHoused, AreLinked, CarriedAt, IsOwn, IsPlaced, Program, ground, standing}
 use Rattle.meant_processes.proofs.Housed.{declared_housed}
+use Rattle.meant_processes.proofs.Linked.{declared_linked}
 use Rattle.meant_processes.proofs.Indices.{IndicesStay, WhatLeaves, all_leaves}
 
 -- what memory carries once a process has ended that began with this environment, and with which indices
@@ -81,6 +83,7 @@ placed_alike p s k label env after placed same low holds = record {
   channels = λ n port is. ap (meaning_at n) same ∙ placed.channels n port is;
   links = placed.links;
   housed = subst (AreHoused s.frame.homes) (sym same) placed.housed;
+  linked = subst (AreLinked p) (sym same) placed.linked;
   low = low;
   long = placed.long ∙ sym (long_alike k.entries s.known.entries same);
   holds = holds;
@@ -203,11 +206,12 @@ true_at None P inner all is = absurd all
 true_at (Some x) P inner all is = let same : x ≡ inner = cc is in subst P same all
 
 -- behind a declaration
-pub placed_behind : (p : Program) (s : Site) (d : Declaration) (env inner : Environment) → IsPlaced p s env
+pub placed_behind : (p : Program) (s : Site) (d : Declaration) (env inner : Environment) → IsOfNoChannel d
+    → IsPlaced p s env
     → DeclarationHolds s.known.entries d → declaration_has_words d ≡ true → declare d env ≡ Some inner
     → HomesRise s.frame s.known.entries → (declared s.known.entries d s.frame).top ≤ MAX_DATA_WORDS
     → IsPlaced p (with_declaration d s) inner
-placed_behind p s d env inner placed right words is rise few =
+placed_behind p s d env inner other placed right words is rise few =
     let es = s.known.entries in
     let main = declared_of_main (record { ports = p.ports; listens = [] }) es d
     (record { own = placed.own; ports = placed.channels }) in
@@ -220,6 +224,7 @@ placed_behind p s d env inner placed right words is rise few =
       links = λ n port at.
           declared_front es d s.frame n (got_below s.frame.homes n _ (placed.links n port at)) ∙ placed.links n port at;
       housed = declared_housed es d s.frame placed.long placed.housed;
+      linked = declared_linked p es d other placed.linked;
       low = omega (arith, low, longer);
       long = (declared_homes_rise s.frame es d rise few).long;
       holds = true_at (declare d env) (IsTrueIn (add_declaration d es)) inner

@@ -20,7 +20,7 @@ module _ (p : Program) (none : BreaksNoRule p.items) (lines : LinesBehave p) whe
   mutual
     process_does : (process : Process) → DeclaresNoChannel process → ProcessBehaves p process
     process_does (Declared d q) other =
-        declared_behaves p none d q (declaration_opens p none d other.0) (process_does q other.1)
+        declared_behaves p none d q other.0 (declaration_opens p none d other.0) (process_does q other.1)
     process_does (Does line c) other = record {
       behaves = λ first s turns env code reached sequential words there is fit.
           (construct_does c other).behaves first line s turns env code reached sequential words there is fit;

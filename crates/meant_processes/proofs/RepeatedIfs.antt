@@ -49,7 +49,7 @@ use Rattle.line_pieces.specs.Declarations.{with_home}
 use Rattle.code_generator.specs.Processes.{Site, at_place, in_each_turn, placed}
 use Rattle.meant_lines.proofs.Housing.{get_before}
 use Rattle.meant_lines.proofs.Shapes.{same_shapes_carry}
-use Rattle.meant_processes.specs.Places.{AreHoused, CarriedAt, FitsIn, IsPlaced, Program, ground, standing, surroundings}
+use Rattle.meant_processes.specs.Places.{AreHoused, AreLinked, CarriedAt, FitsIn, IsPlaced, Program, ground, standing, surroundings}
 use Rattle.meant_processes.specs.Premises.{ConditionsPush}
 use Rattle.meant_processes.proofs.Carried.{index_opened, scope_left}
 use Rattle.meant_processes.proofs.Choices.{ChoiceMeans, ChoicesMean}
@@ -112,6 +112,7 @@ module _ (p : Program) (none : BreaksNoRule p.items) (conditions : ConditionsPus
             (shape start)
             (there.long ∙ sym (long_alike start s.known.entries same) ∙ sym (shape_long start)) tt
             (subst (AreHoused s.frame.homes) (sym same) there.housed);
+        linked = (tt, subst (AreLinked p) (sym same) there.linked);
         low = low;
         long = home_behind s.frame.homes Nowhere
             ∙ ap suc (there.long ∙ sym (long_alike start s.known.entries same));

@@ -46,6 +46,7 @@ use Rattle.meant_code.proofs.StraightLines.{declaration_is}
 use Rattle.meant_lines.specs.Carrying.{Carries}
 use Rattle.meant_actions.proofs.Bytes.{bytes_stay}
 use Rattle.meant_processes.specs.Lying.{LieApart, PiecesBehave}
+use Rattle.meant_processes.specs.Channels.{IsOfNoChannel}
 use Rattle.meant_processes.specs.Places.{AllFit, CarriedAt, FitsIn, IsPlaced, Program, ground, standing, surroundings}
 use Rattle.meant_processes.specs.Premises.{DeclarationOpens, LinesBehave}
 use Rattle.meant_processes.proofs.Behaving.{no_pieces, pieces_as, pieces_both, pieces_well, row_behind}
@@ -128,9 +129,9 @@ module _ (p : Program) (none : BreaksNoRule p.items) where
             (indices_left (length env) (shape si.known.entries) inner e left.1)),
       )
 
-  pub declared_behaves : (d : Declaration) (q : Process) → DeclarationOpens p d → ProcessBehaves p q
+  pub declared_behaves : (d : Declaration) (q : Process) → IsOfNoChannel d → DeclarationOpens p d → ProcessBehaves p q
       → ProcessBehaves p (Declared d q)
-  declared_behaves d q opens behaves = record {
+  declared_behaves d q other opens behaves = record {
     behaves = λ first s turns env c reached sequential words placed is fit. record {
       behaves = λ at_row at to h lie inside_code begins.
           let es = s.known.entries in
@@ -146,7 +147,7 @@ module _ (p : Program) (none : BreaksNoRule p.items) where
           (λ inner declares.
           let o = opens first q s turns env inner h reached placed both.0 declares
           (all_first (FitsIn p) decl b.rest.pieces fits) begins in
-          let entered = placed_behind p s d env inner placed right.holds both.0 declares
+          let entered = placed_behind p s d env inner other placed right.holds both.0 declares
           (record { long = placed.long; rise = begins.carries.rise })
           (let few = o.carries.carries.frame.few in let room = o.carries.carries.room in omega (arith, few, room)) in
           let run = behaves.behaves first si turns inner b.rest

@@ -1,18 +1,21 @@
 -- Where a process of a program stands: what is known there, what memory carries, and which pieces are those of the whole.
-use Rattle.std.specs.Prelude.{◌≡◌, ℕ, ◌≤◌, ℤ, List, [], ◌∷◌, length, Option, Some, None, slice_get}
+use Rattle.std.specs.Prelude.{◌≡◌, ℕ, ◌<◌, ◌≤◌, true, ℤ, List, [], ◌∷◌, length, Option, Some, None, slice_get}
 use Rattle.std.specs.List.{AllByRecursion}
 use Rattle.machine_state.specs.Memory.{Memory}
+use Rattle.occam_parser.specs.declared.tree.ValueType.{ValueType}
 use Rattle.occam_parser.specs.Blocks.{ProgramItem}
 use Rattle.scalar_ranges.specs.declared.scope.ScalarKind.TheVariants as scalar
 use Rattle.scalar_ranges.specs.declared.scope.ArrayKind.TheVariants as array
-use Rattle.scalar_ranges.specs.Entries.{Meaning, Scalar, Array, Channel, Entry, type_range}
+use Rattle.scalar_ranges.specs.Entries.{Meaning, Scalar, Array, Channel, Channels, Entry, type_range}
 use Rattle.scalar_ranges.specs.Environments.{Environment, item_at}
 use Rattle.scalar_ranges.specs.MoveLaws.{shape, meaning_at}
 use Rattle.scalar_ranges.specs.Moves.{begun_with}
 use Rattle.program_uses.specs.Actions.{Around}
+use Rattle.program_uses.specs.LinkNames.{link_way}
 use Rattle.program_meaning.specs.Links.{Port}
 use Rattle.program_meaning.specs.GoingWell.{IsTrueIn}
 use Rattle.usage_checks.specs.declared.channel_rules.Position.{Position}
+use Rattle.usage_checks.specs.ChannelRules.{is_formal_of_main}
 use Rattle.usage_checks.specs.Reaching.{Standing}
 use Rattle.code_pieces.specs.Pieces.{Piece}
 use Rattle.line_pieces.specs.Homes.{Home, Link, Word}
@@ -23,8 +26,8 @@ use Rattle.meant_lines.specs.Carrying.{Ground, Carries}
 use Rattle.meant_lines.specs.Pushing.{StandsOn}
 use Rattle.meant_actions.specs.Bytes.{HasBytes}
 
--- The items of a program, what is around the process and its position, the code of instances, the code that is laid out, with so many
--- words in its frame and these pieces, and which declarations are links.
+-- The items of a program, what is around the process and its position, the code of instances, the code that is laid out,
+-- with so many words in its frame and these pieces, and which declarations are links.
 pub record Program : Type 0 where
   pub items : List ProgramItem
   pub around : Around
@@ -80,8 +83,27 @@ abbrev pub AreHoused : List Home → List Entry → Type 0
 AreHoused hs [] = Unit {0}
 AreHoused hs (e ∷ es) = IsHoused (slice_get hs (length es)) e.meaning × AreHoused hs es
 
--- At a site what is known is true, names have the homes of their kinds, and the ports are channels whose homes are
--- their links.
+-- A channel is a link of main: a port of the way that its name has, among main's formals.
+pub record IsLink (p : Program) (n : ℕ) (name : List ℕ) (type : ValueType) : Type 0 where
+  pub port : Port
+  pub is : item_at n p.ports ≡ Some (Some port)
+  pub carries : port.carries ≡ type
+  pub way : link_way name ≡ Some port.way
+  pub link : port.link < 4
+  pub formal : is_formal_of_main p.position n ≡ true
+
+abbrev pub IsLinked : Program → ℕ → List ℕ → Meaning → Type 0
+IsLinked p n name (Channel type) = IsLink p n name type
+IsLinked p n name (Channels type size) = ⊥
+IsLinked p n name m = Unit {0}
+
+-- all channels among these names are
+abbrev pub AreLinked : Program → List Entry → Type 0
+AreLinked p [] = Unit {0}
+AreLinked p (e ∷ es) = IsLinked p (length es) e.name e.meaning × AreLinked p es
+
+-- At a site what is known is true, names have the homes of their kinds, the ports are channels whose homes are their
+-- links, and there are no other channels.
 pub record IsPlaced (p : Program) (s : Site) (env : Environment) : Type 0 where
   pub counted : p.around.uncounted ≡ None
   pub own : AllByRecursion (λ e. IsOwn e.meaning) (shape s.known.entries)
@@ -90,6 +112,7 @@ pub record IsPlaced (p : Program) (s : Site) (env : Environment) : Type 0 where
   pub links : (n : ℕ) (port : Port) → item_at n p.ports ≡ Some (Some port)
       → slice_get s.frame.homes n ≡ Some (Link (link_of port))
   pub housed : AreHoused s.frame.homes (shape s.known.entries)
+  pub linked : AreLinked p (shape s.known.entries)
   pub low : begun_with s.known.blocks ≤ length s.known.entries
   pub long : length s.frame.homes ≡ length s.known.entries
   pub holds : IsTrueIn s.known.entries env
