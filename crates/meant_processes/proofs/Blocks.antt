@@ -10,7 +10,6 @@ use Rattle.scalar_ranges.specs.Environments.{Environment}
 use Rattle.scalar_ranges.specs.Moves.{Known}
 use Rattle.program_meaning.specs.Doing.{Doing, doing_by_word, doing_components, doing_first, or_halts}
 use Rattle.program_meaning.specs.Sequential.{AreSequential, IsSequentialWord}
-use Rattle.usage_checks.specs.declared.channel_rules.Position.{Position}
 use Rattle.usage_checks.specs.AfterProcesses.{after_components, begun, ended}
 use Rattle.usage_checks.specs.ItemRules.{BreaksNoRule}
 use Rattle.usage_checks.specs.Outlines.{IsMadeOf}

@@ -2,6 +2,7 @@ pub mod Lying
 pub mod Indices
 pub mod Housed
 pub mod Linked
+pub mod Ports
 pub mod Behaving
 pub mod CodeParts
 pub mod Choices

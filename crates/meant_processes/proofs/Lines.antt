@@ -3,7 +3,6 @@ use Rattle.std.proofs.Common.{◌≡◌, ℕ, ◌+◌, ℤ, Bool, true, List, []
 use Rattle.occam_parser.specs.Lines.{Action, Assign, Input, Instance, Output, Skip, Stop}
 use Rattle.occam_parser.specs.Blocks.{Act, Does}
 use Rattle.occam_parser.specs.Words.{action_has_words}
-use Rattle.usage_checks.specs.declared.channel_rules.Position.{Position}
 use Rattle.usage_checks.specs.ItemRules.{BreaksNoRule}
 use Rattle.usage_checks.specs.Reaching.{AProcess, Reaches}
 use Rattle.usage_checks.proofs.PlacesHold.{places_hold}
@@ -22,12 +21,13 @@ use Rattle.meant_actions.proofs.Actions.{actions_behave}
 use Rattle.meant_actions.proofs.Checked.{checked_actions_are_ready}
 use Rattle.meant_actions.proofs.Exchanging.{roots_are_undisturbed}
 use Rattle.meant_code.proofs.StraightLines.{assign_is, input_is, output_is}
-use Rattle.meant_processes.specs.Actions.{ChannelsArePorts, ReachedLinesBehave}
+use Rattle.meant_processes.specs.Actions.{ReachedLinesBehave}
 use Rattle.meant_processes.specs.Lying.{LieApart, PiecesBehave}
 use Rattle.meant_processes.specs.Places.{AllFit, CarriedAt, IsPlaced, Program, ground, standing}
 use Rattle.meant_processes.proofs.Behaving.{goes_on_behind}
 use Rattle.meant_processes.proofs.CodeParts.{written_is}
 use Rattle.meant_processes.proofs.Housed.{arrays_housed, no_references, scalars_housed}
+use Rattle.meant_processes.proofs.Ports.{reached_port}
 use Rattle.meant_processes.proofs.Lying.{straight_lie, stop_lies}
 
 -- the code of an action lies as ever: no two rows are in it
@@ -63,13 +63,13 @@ action_lies c at_row at to f es label (Output channel value) code is lie =
 action_lies c at_row at to f es label (Instance name actuals) code is lie = absurd (cc is)
 
 -- an action that is no instance
-action_behaves : (p : Program) → BreaksNoRule p.items → p.code.footing.depth ≡ 0 → ChannelsArePorts p
+action_behaves : (p : Program) → BreaksNoRule p.items → p.code.footing.depth ≡ 0
     → (first line : ℕ) (action : Action) (s : Site) (turns : ℕ → ℤ) (env : Environment) (c : Code)
     → Reaches p.items (standing p) (AProcess first (Does line (Act action))) s.known → IsPlaced p s env
     → IsSequentialAction action → action_has_words action ≡ true
     → action_code s.frame s.known.entries s.label action ≡ Some c → AllFit p c.pieces
     → PiecesBehave p.code (CarriedAt p s turns env) c.pieces (CarriedAt p s turns) (acting p.ports action env)
-action_behaves p none root ports first line action s turns env c reached there sequential words is fit = record {
+action_behaves p none root first line action s turns env c reached there sequential words is fit = record {
   behaves = λ at_row at to h lie inside begins.
       let es = s.known.entries in
       let g = ground p s.frame.homes turns in
@@ -87,7 +87,7 @@ action_behaves p none root ports first line action s turns env c reached there s
         references = λ name type range means. no_references es name type range there.own means;
         arrays = λ name type size range means.
             arrays_housed s.frame.homes es name type size range there.housed means;
-      }) (ports first line action s turns env reached there) right.holds words sequential in
+      }) (reached_port p none first line action s turns env reached there) right.holds words sequential in
       goes_on_behind p.code
       (actions_behave p.code g s.frame at to s.label es env h p.ports action c refl
       (record {
@@ -101,16 +101,16 @@ action_behaves p none root ports first line action s turns env c reached there s
 }
 
 pub reached_lines_behave : ReachedLinesBehave
-reached_lines_behave p none root ports first line Skip s turns env c reached there words is fit =
-    action_behaves p none root ports first line Skip s turns env c reached there tt words is fit
-reached_lines_behave p none root ports first line Stop s turns env c reached there words is fit =
-    action_behaves p none root ports first line Stop s turns env c reached there tt words is fit
-reached_lines_behave p none root ports first line (Assign target value) s turns env c reached there words is fit =
-    action_behaves p none root ports first line (Assign target value) s turns env c reached there tt words is fit
-reached_lines_behave p none root ports first line (Input channel target) s turns env c reached there words is fit =
-    action_behaves p none root ports first line (Input channel target) s turns env c reached there tt words is fit
-reached_lines_behave p none root ports first line (Output channel value) s turns env c reached there words is fit =
-    action_behaves p none root ports first line (Output channel value) s turns env c reached there tt words is fit
-reached_lines_behave p none root ports first line (Instance name actuals) s turns env c reached there words is
+reached_lines_behave p none root first line Skip s turns env c reached there words is fit =
+    action_behaves p none root first line Skip s turns env c reached there tt words is fit
+reached_lines_behave p none root first line Stop s turns env c reached there words is fit =
+    action_behaves p none root first line Stop s turns env c reached there tt words is fit
+reached_lines_behave p none root first line (Assign target value) s turns env c reached there words is fit =
+    action_behaves p none root first line (Assign target value) s turns env c reached there tt words is fit
+reached_lines_behave p none root first line (Input channel target) s turns env c reached there words is fit =
+    action_behaves p none root first line (Input channel target) s turns env c reached there tt words is fit
+reached_lines_behave p none root first line (Output channel value) s turns env c reached there words is fit =
+    action_behaves p none root first line (Output channel value) s turns env c reached there tt words is fit
+reached_lines_behave p none root first line (Instance name actuals) s turns env c reached there words is
     fit =
     record { behaves = λ at_row at to h lie inside begins. any }

@@ -1,7 +1,7 @@
 -- The channels in scope are main's links, and each is used the way of its name.
-use Rattle.std.proofs.Common.{◌≡◌, ℕ, suc, ◌+◌, ◌<◌, ◌≤◌, ◌&&◌, Bool, true, false, cond, List, [], ◌∷◌, length, Option}
-use Rattle.std.proofs.Common.{Some, None, Ok, Err, inl, inr, refl, sym, ap, subst, ◌∙◌, arith}
-use Rattle.std.specs.Prelude.{Result, bytes_eq, nat_eq, option_and_then, slice_get, unwrap_or}
+use Rattle.std.proofs.Common.{◌≡◌, ℕ, ◌+◌, ◌&&◌, Bool, true, false, cond, List, [], ◌∷◌, length, Option}
+use Rattle.std.proofs.Common.{Some, None, Ok, refl, sym, ap, subst, ◌∙◌, arith}
+use Rattle.std.specs.Prelude.{bytes_eq, nat_eq, option_and_then, slice_get, unwrap_or}
 use Rattle.std.proofs.lemmas.Bool.{and_parts}
 use Rattle.std.proofs.lemmas.Slice.Eq.{bytes_eq-Decides}
 use Rattle.word_arithmetic.specs.Range.{Ends, full}
@@ -15,10 +15,9 @@ use Rattle.scalar_ranges.specs.declared.scope.ArrayKind.TheVariants as array
 use Rattle.scalar_ranges.specs.Entries as entries
 use Rattle.scalar_ranges.specs.Entries.{Array, Channel, Entry, Meaning, Scalar, meaning_in, number_in, type_range}
 use Rattle.scalar_ranges.specs.Environments.{Environment, Meets, item_at}
-use Rattle.scalar_ranges.specs.MoveLaws.{meaning_at, shape}
+use Rattle.scalar_ranges.specs.MoveLaws.{shape}
 use Rattle.scalar_ranges.specs.Narrowing.{with_range}
 use Rattle.scalar_ranges.proofs.MoveLaws.{shape_long}
-use Rattle.program_uses.specs.declared.faults.TheConstants.{CHANNEL_USE}
 use Rattle.program_uses.specs.declared.uses.Direction.{Direction}
 use Rattle.program_uses.specs.declared.uses.Direction.TheVariants as direction
 use Rattle.program_uses.specs.Constants.{size_in}
@@ -28,14 +27,12 @@ use Rattle.program_uses.specs.LinkNames.{link_way}
 use Rattle.program_uses.specs.Places.{is_subscripted}
 use Rattle.program_uses.specs.Sets.{is_same_way}
 use Rattle.program_meaning.specs.Links.{Port}
-use Rattle.program_meaning.specs.Running.{facing, port_of}
-use Rattle.program_meaning.specs.Storing.{number_held}
+use Rattle.program_meaning.specs.Running.{facing}
 use Rattle.program_meaning.proofs.NumbersStored.{numbers_agree}
-use Rattle.usage_checks.specs.declared.channel_rules.Position.{Position}
-use Rattle.usage_checks.specs.ChannelRules.{IsMisused, is_formal_of_main, is_inside, is_right_way, is_way}
-use Rattle.usage_checks.specs.PlaceRules.{channel_at, channel_type}
+use Rattle.usage_checks.specs.ChannelRules.{is_inside, is_right_way, is_way}
+use Rattle.usage_checks.specs.PlaceRules.{channel_type}
 use Rattle.line_pieces.specs.Actions.{carried}
-use Rattle.line_pieces.specs.Homes.{Home, Link, home_of}
+use Rattle.line_pieces.specs.Homes.{Link}
 use Rattle.code_generator.specs.Programs.{link_of}
 use Rattle.meant_lines.specs.Carrying.{Ground}
 use Rattle.meant_actions.specs.Exchanging.{IsPort, link_home}

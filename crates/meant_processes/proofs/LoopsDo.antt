@@ -30,7 +30,6 @@ use Rattle.program_meaning.specs.Running.{Goes, with_index}
 use Rattle.program_meaning.specs.Sequential.{IsSequential}
 use Rattle.program_meaning.proofs.MovesWithin.{within_left}
 use Rattle.program_meaning.proofs.OutcomesGoWell.{outcomes_go_well}
-use Rattle.usage_checks.specs.declared.channel_rules.Position.{Position}
 use Rattle.usage_checks.specs.AfterProcesses.{inside}
 use Rattle.usage_checks.specs.ItemRules.{BreaksNoRule}
 use Rattle.usage_checks.specs.NameRules.{with_entries}

@@ -21,7 +21,6 @@ use Rattle.program_meaning.specs.GoingWell.{IsTrueIn}
 use Rattle.program_meaning.specs.Sequential.{IsSequential}
 use Rattle.program_meaning.specs.Storing.{bind_all, declare, held_by, zero_for}
 use Rattle.program_meaning.proofs.LeavesAreTrue.{leaves_are_true}
-use Rattle.usage_checks.specs.declared.channel_rules.Position.{Position}
 use Rattle.usage_checks.specs.AfterProcesses.{inside}
 use Rattle.usage_checks.specs.Holding.{DeclarationHolds}
 use Rattle.usage_checks.specs.ItemRules.{BreaksNoRule}

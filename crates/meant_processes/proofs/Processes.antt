@@ -43,7 +43,7 @@ module _ (p : Program) (none : BreaksNoRule p.items) (lines : LinesBehave p) whe
     component_does (Guarded line g q) other = process_does q other
 
 pub processes_behave : ProcessesBehave
-processes_behave p process none sequential words other root ports first s turns env c reached there is fit =
+processes_behave p process none sequential words other root first s turns env c reached there is fit =
     pieces_as p.code (λ m carries. carries) (λ e m left. left.0)
-    ((process_does p none (reached_lines_behave p none root ports) process other).behaves first s turns env c
+    ((process_does p none (reached_lines_behave p none root) process other).behaves first s turns env c
     reached sequential words there is fit)

@@ -42,7 +42,6 @@ use Rattle.program_meaning.specs.TypedValues.{IsNumberOf}
 use Rattle.program_meaning.proofs.DeclarationsHold.{value_is_number}
 use Rattle.program_meaning.proofs.TypesStay.{types_stay}
 use Rattle.program_meaning.proofs.ValuesTyped.{values_are_typed}
-use Rattle.usage_checks.specs.declared.channel_rules.Position.{Position}
 use Rattle.usage_checks.specs.AfterProcesses.{after_body, after_component, begun_body}
 use Rattle.usage_checks.specs.Holding.{ReplicatorHolds}
 use Rattle.usage_checks.specs.ItemRules.{BreaksNoRule}

@@ -34,7 +34,6 @@ use Rattle.program_meaning.specs.Sequential.{IsSequential}
 use Rattle.program_meaning.specs.Storing.{bind}
 use Rattle.program_meaning.proofs.MovesWithin.{within_shape}
 use Rattle.program_meaning.proofs.TypesStay.{types_stay}
-use Rattle.usage_checks.specs.declared.channel_rules.Position.{Position}
 use Rattle.usage_checks.specs.AfterProcesses as after
 use Rattle.usage_checks.specs.AfterProcesses.{after_component, inside}
 use Rattle.usage_checks.specs.ItemRules.{BreaksNoRule}

@@ -21,7 +21,6 @@ use Rattle.program_meaning.specs.GoingWell.{IsTrueIn}
 use Rattle.program_meaning.specs.Sequential.{AreSequential, IsSequential, IsSequentialConstruct}
 use Rattle.program_meaning.specs.Storing.{declare}
 use Rattle.program_meaning.proofs.MovesWithin.{within_shape}
-use Rattle.usage_checks.specs.declared.channel_rules.Position.{Position}
 use Rattle.usage_checks.specs.AfterProcesses.{after_components, inside}
 use Rattle.usage_checks.specs.Following.{after_action}
 use Rattle.usage_checks.specs.ItemRules.{BreaksNoRule}

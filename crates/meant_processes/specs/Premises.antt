@@ -10,7 +10,6 @@ use Rattle.scalar_ranges.specs.Environments.{Environment}
 use Rattle.scalar_ranges.specs.Values.{truth_of}
 use Rattle.program_meaning.specs.Doing.{acting}
 use Rattle.program_meaning.specs.Storing.{declare}
-use Rattle.usage_checks.specs.declared.channel_rules.Position.{Position}
 use Rattle.usage_checks.specs.Reaching.{Reaches, AProcess, AComponent}
 use Rattle.code_pieces.specs.Pieces.{Code}
 use Rattle.line_pieces.specs.Declarations.{declaration_code}

@@ -9,13 +9,13 @@ pub fn pieces_lie_apart()
     ensures { PiecesLieApart }
 {}
 
-/// In the root the code of each line that is reached behaves, where the channels of actions are ports.
+/// In the root the code of each line that is reached behaves, if no rule is broken.
 pub fn reached_lines_behave()
     ensures { ReachedLinesBehave }
 {}
 
-/// The code of each process of a sequential program that breaks no rule makes a process do what its meaning says, where
-/// it declares no channel and those of its actions are ports.
+/// The code of each process of a sequential program that breaks no rule makes a process do what its meaning says, if it
+/// declares no channel.
 pub fn processes_behave()
     ensures { ProcessesBehave }
 {}
