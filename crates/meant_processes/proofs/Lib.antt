@@ -1,4 +1,5 @@
 pub mod Lying
+pub mod LyingInPrograms
 pub mod Indices
 pub mod Housed
 pub mod Linked

@@ -1,4 +1,5 @@
 pub mod Lying
+pub mod LyingInPrograms
 pub mod Places
 pub mod Premises
 pub mod Actions

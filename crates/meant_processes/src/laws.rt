@@ -2,11 +2,17 @@
 
 ghost use Rattle.meant_processes.specs.Actions.{ReachedLinesBehave};
 ghost use Rattle.meant_processes.specs.Lying.{PiecesLieApart};
+ghost use Rattle.meant_processes.specs.LyingInPrograms.{PartsLieApart};
 ghost use Rattle.meant_processes.specs.ProcessesBehave.{ProcessesBehave};
 
 /// Pieces lie in code where their rows were kept apart.
 pub fn pieces_lie_apart()
     ensures { PiecesLieApart }
+{}
+
+/// So does each part of the pieces of a program, where a module says them.
+pub fn parts_lie_apart()
+    ensures { PartsLieApart }
 {}
 
 /// In the root the code of each line that is reached behaves, if no rule is broken.

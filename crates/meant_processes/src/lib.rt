@@ -3,4 +3,4 @@
 
 mod laws;
 
-pub use laws::{pieces_lie_apart, processes_behave, reached_lines_behave};
+pub use laws::{parts_lie_apart, pieces_lie_apart, processes_behave, reached_lines_behave};
