@@ -1,3 +1,2 @@
 pub mod Generated
 pub mod Refused
-pub mod EchoMeant

@@ -1,3 +1,2 @@
 pub mod LinkLengths
 pub mod Compiled
-pub mod Meant

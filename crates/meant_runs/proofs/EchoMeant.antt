@@ -27,8 +27,8 @@ use Rattle.link_runs.specs.FirstInFirstOut.{Supply, RunMoment, moment_after, nex
 use Rattle.program_meaning.specs.Meaning.{Ending, Report, Ended, Idle, meaning}
 use Rattle.occam_parser.specs.Blocks.{ProgramItem}
 use Rattle.module_format.specs.Contents.{Contents}
-use Rattle.compiler.specs.Meant.{EndsAsMeant, RunsAsMeant, IsReportOf, bytes_in, all_bytes_in}
-use Rattle.compiler.specs.Meant.{in_order}
+use Rattle.meant_runs.specs.Meant.{EndsAsMeant, RunsAsMeant, IsReportOf, bytes_in, all_bytes_in}
+use Rattle.meant_runs.specs.Meant.{in_order}
 
 -- a run is over at this moment, if there is one, and this is reported there
 abbrev EndsAt : Contents → ByLink Bool → Report → Option RunMoment → Type 0

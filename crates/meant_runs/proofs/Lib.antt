@@ -1,0 +1,2 @@
+pub mod EchoMeant
+pub mod MainsRun
