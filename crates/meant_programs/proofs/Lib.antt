@@ -1,0 +1,2 @@
+pub mod Globals
+pub mod Items

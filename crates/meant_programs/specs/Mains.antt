@@ -1,0 +1,56 @@
+-- Where main of a program is: what is known there, what names hold, and what memory carries of them.
+use Rattle.std.specs.Prelude.{◌≡◌, true, ℕ, ℤ, pos, Bool, List, [], length, Option, None, Some}
+use Rattle.std.specs.List.{AllByRecursion}
+use Rattle.machine_state.specs.Memory.{Memory}
+use Rattle.occam_parser.specs.Blocks.{Procedure, ProgramItem, GlobalProcedure}
+use Rattle.occam_parser.specs.Words.{process_has_words}
+use Rattle.scalar_ranges.specs.Environments.{Environment}
+use Rattle.scalar_ranges.specs.MoveLaws.{shape}
+use Rattle.program_meaning.specs.GoingWell.{IsTrueIn}
+use Rattle.program_meaning.specs.Links.{Links}
+use Rattle.program_meaning.specs.Meaning.{in_main, run_program}
+use Rattle.program_meaning.specs.Sequential.{IsSequential}
+use Rattle.usage_checks.specs.ItemRules.{Outside, outermost, around_in}
+use Rattle.usage_checks.specs.MainRules.{are_links}
+use Rattle.usage_checks.specs.Reaching.{Comes}
+use Rattle.code_pieces.specs.Pieces.{Code, Piece}
+use Rattle.line_pieces.specs.Homes.{Home}
+use Rattle.line_pieces.specs.Declarations.{Frame}
+use Rattle.code_generator.specs.Calls.{Callee, where_called}
+use Rattle.code_generator.specs.Processes.{Site}
+use Rattle.code_generator.specs.Programs.{first_word, main_code}
+use Rattle.placed_code.specs.StraightPieces.{Footing}
+use Rattle.meant_lines.specs.Carrying.{Ground, Carries}
+use Rattle.meant_processes.specs.Places.{IsOwn}
+
+-- the ground under main, where no loop is open
+abbrev pub grounded : Footing → ℕ → List Piece → List Home → Ground
+grounded footing words whole homes =
+    record { footing = footing; words = words; pieces = whole; homes = homes; turns = λ w. pos 0 }
+
+-- where main's links are declared
+abbrev pub before_main : Outside → Frame → Site
+before_main o f = record { frame = f; known = o.known; label = 0 }
+
+-- Main of a program with this code, where memory carries the names before it.
+pub record FoundMain (items : List ProgramItem) (footing : Footing) (words : ℕ) (whole : List Piece) (m : Memory)
+    (code : Code) : Type 0 where
+  pub outside : Outside
+  pub procedure : Procedure
+  pub callees : List Callee
+  pub frame : Frame
+  pub names : Environment
+  pub comes : Comes outside (GlobalProcedure procedure) items outermost
+  pub runs : (listens : List Bool) (l : Links) → run_program items listens l ≡ in_main listens procedure names l
+  pub is : main_code (where_called callees (around_in outside) (length callees)) procedure
+      (before_main outside frame) ≡ Some code
+  pub holds : IsTrueIn outside.known.entries names
+  pub own : AllByRecursion (λ e. IsOwn e.meaning) (shape outside.known.entries)
+  pub blocks : outside.known.blocks ≡ []
+  pub counted : outside.uncounted ≡ None
+  pub long : length frame.homes ≡ length outside.known.entries
+  pub top : frame.top ≡ first_word
+  pub carries : Carries (grounded footing words whole frame.homes) frame.top outside.known.entries names m
+  pub links : are_links procedure.head.formals ≡ true
+  pub sequential : IsSequential procedure.body
+  pub has_words : process_has_words procedure.body ≡ true
