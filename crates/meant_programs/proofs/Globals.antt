@@ -1,10 +1,10 @@
 -- What is known before main, item by item.
-use Rattle.std.proofs.Common.{◌≡◌, ◌≢◌, ℕ, zero, suc, Bool, true, false, cond, List, [], ◌∷◌, ◌++◌}
+use Rattle.std.proofs.Common.{◌≡◌, ℕ, zero, suc, Bool, true, false, cond, List, [], ◌∷◌, ◌++◌}
 use Rattle.std.proofs.Common.{length, map, Option, Some, None, inl, inr, refl, sym, ap, subst, arith, ◌∙◌, ◌⊎◌, max}
 use Rattle.std.proofs.Common.{append_assoc, IsSomeAnd}
 use Rattle.std.proofs.lemmas.Bool.Decides.{nat_tests}
 use Rattle.std.proofs.lemmas.List.{length-append, append-nil}
-use Rattle.std.specs.List.{AllByRecursion, slice_get, list_all}
+use Rattle.std.specs.List.{AllByRecursion, slice_get}
 use Rattle.std.specs.Prelude.{nat_eq, option_map}
 use Rattle.std.proofs.lemmas.Bool.{and_parts, true_from_ne_false}
 use Rattle.word_arithmetic.specs.Range.{Ends, full}
@@ -15,8 +15,7 @@ use Rattle.occam_parser.specs.Expressions.{Expression}
 use Rattle.occam_parser.specs.Lines as lines
 use Rattle.occam_parser.specs.Lines.{Formal, Constants, Value}
 use Rattle.occam_parser.specs.Blocks.{Procedure, ProgramItem, GlobalConstant, GlobalProcedure, item_line}
-use Rattle.occam_parser.specs.Words.{formal_has_words, process_has_words, item_has_words}
-use Rattle.occam_parser.specs.Words.{items_have_words}
+use Rattle.occam_parser.specs.Words.{item_has_words}
 use Rattle.scalar_ranges.specs.declared.bounds.TheConstants.{OUT_OF_RANGE}
 use Rattle.scalar_ranges.specs.declared.scope.ArrayKind.TheVariants as array
 use Rattle.scalar_ranges.specs.Entries as entries
@@ -26,7 +25,7 @@ use Rattle.scalar_ranges.specs.Narrowing.{with_range}
 use Rattle.scalar_ranges.specs.Moves as moves
 use Rattle.scalar_ranges.specs.Moves.{Known, begun_with}
 use Rattle.scalar_ranges.specs.MoveLaws.{shape, meaning_at}
-use Rattle.scalar_ranges.proofs.MoveLaws.{as_long, shapes_stay, shape_long}
+use Rattle.scalar_ranges.proofs.MoveLaws.{shapes_stay}
 use Rattle.scalar_ranges.proofs.Nesting.{outermost_twice}
 use Rattle.program_uses.specs.declared.faults.TheConstants.{NO_MAIN}
 use Rattle.program_uses.specs.declared.uses.Direction.{Direction}
@@ -36,21 +35,18 @@ use Rattle.program_uses.specs.Declaring.{add, add_declaration, constant_meaning,
 use Rattle.program_uses.specs.Declaring.{formal_meaning, add_formals}
 use Rattle.program_uses.specs.LinkNames.{link_way}
 use Rattle.program_uses.proofs.ScopesExtended.{inner_cut}
-use Rattle.program_meaning.specs.Links.{Port, Links}
-use Rattle.program_meaning.specs.Meaning.{NoValue, reported, link_number, port_for, bind_formals, no_ports, in_main}
-use Rattle.program_meaning.specs.Meaning.{declare_item, run_last, run_items, run_program, not_yet}
+use Rattle.program_meaning.specs.Links.{Port}
+use Rattle.program_meaning.specs.Meaning.{link_number, port_for, bind_formals, no_ports}
+use Rattle.program_meaning.specs.Meaning.{declare_item}
 use Rattle.program_meaning.specs.Storing.{bind, declare}
-use Rattle.program_meaning.specs.Running.{Surroundings, Outcome, Goes, Waits, Stuck, or_stuck}
-use Rattle.program_meaning.specs.Sequential.{IsSequential, IsSequentialProgram}
-use Rattle.program_meaning.specs.GoingWell.{IsTrueIn, IsWell}
+use Rattle.program_meaning.specs.GoingWell.{IsTrueIn}
 use Rattle.program_meaning.proofs.MovesWithin.{within_shape}
 use Rattle.usage_checks.specs.AfterProcesses.{inside, left_to}
-use Rattle.usage_checks.specs.BrokenInTurn.{BreaksInTurn}
 use Rattle.usage_checks.specs.ItemRules.{in_body, after_procedure, Outside, outermost, around_in, after_weighing}
 use Rattle.usage_checks.specs.ItemRules.{weighed}
-use Rattle.usage_checks.specs.ItemRules.{Ends as EndsAt, EndsCounting, after_walk, after_item, BreaksItem, BreaksNoRule}
-use Rattle.usage_checks.specs.MainRules.{is_link_as, are_links, is_main_name, is_main, IsNoMain}
-use Rattle.usage_checks.specs.Reaching.{Comes, in_procedure, to_body}
+use Rattle.usage_checks.specs.ItemRules.{Ends as EndsAt, EndsCounting, after_walk, BreaksNoRule}
+use Rattle.usage_checks.specs.MainRules.{is_link_as, are_links, is_main, IsNoMain}
+use Rattle.usage_checks.specs.Reaching.{Comes}
 use Rattle.usage_checks.specs.Sizes.{Measured, measures_of_item, end_in}
 use Rattle.usage_checks.proofs.PlacesHold.{Unbroken, items_hold}
 use Rattle.usage_checks.proofs.ActionsGoWell.{IsOwn, at_below}

@@ -1,16 +1,16 @@
 -- Where main of a program is: what is known there, what names hold, and what memory carries of them.
-use Rattle.std.specs.Prelude.{◌≡◌, true, ℕ, ℤ, pos, Bool, List, [], length, Option, None, Some}
+use Rattle.std.specs.Prelude.{◌≡◌, true, ℕ, pos, Bool, List, [], length, None, Some}
 use Rattle.std.specs.List.{AllByRecursion}
 use Rattle.machine_state.specs.Memory.{Memory}
 use Rattle.occam_parser.specs.Blocks.{Procedure, ProgramItem, GlobalProcedure}
-use Rattle.occam_parser.specs.Words.{process_has_words}
+use Rattle.occam_parser.specs.Words.{process_has_words, items_have_words}
 use Rattle.scalar_ranges.specs.Environments.{Environment}
 use Rattle.scalar_ranges.specs.MoveLaws.{shape}
 use Rattle.program_meaning.specs.GoingWell.{IsTrueIn}
 use Rattle.program_meaning.specs.Links.{Links}
 use Rattle.program_meaning.specs.Meaning.{in_main, run_program}
-use Rattle.program_meaning.specs.Sequential.{IsSequential}
-use Rattle.usage_checks.specs.ItemRules.{Outside, outermost, around_in}
+use Rattle.program_meaning.specs.Sequential.{IsSequential, IsSequentialProgram}
+use Rattle.usage_checks.specs.ItemRules.{Outside, outermost, around_in, BreaksNoRule}
 use Rattle.usage_checks.specs.MainRules.{are_links}
 use Rattle.usage_checks.specs.Reaching.{Comes}
 use Rattle.code_pieces.specs.Pieces.{Code, Piece}
@@ -18,7 +18,7 @@ use Rattle.line_pieces.specs.Homes.{Home}
 use Rattle.line_pieces.specs.Declarations.{Frame}
 use Rattle.code_generator.specs.Calls.{Callee, where_called}
 use Rattle.code_generator.specs.Processes.{Site}
-use Rattle.code_generator.specs.Programs.{first_word, main_code}
+use Rattle.code_generator.specs.Programs.{first_word, main_code, code_of}
 use Rattle.placed_code.specs.StraightPieces.{Footing}
 use Rattle.meant_lines.specs.Carrying.{Ground, Carries}
 use Rattle.meant_processes.specs.Places.{IsOwn}
@@ -54,3 +54,9 @@ pub record FoundMain (items : List ProgramItem) (footing : Footing) (words : ℕ
   pub links : are_links procedure.head.formals ≡ true
   pub sequential : IsSequential procedure.body
   pub has_words : process_has_words procedure.body ≡ true
+
+-- Main of a sequential program that breaks no rule is found, where memory carries that there are no names.
+abbrev pub MainIsFound : Type 0
+MainIsFound = (items : List ProgramItem) (code : Code) (footing : Footing) (words : ℕ) (whole : List Piece) (m : Memory)
+    → BreaksNoRule items → IsSequentialProgram items → items_have_words items ≡ true → code_of items ≡ Some code
+    → Carries (grounded footing words whole []) first_word [] [] m → FoundMain items footing words whole m code

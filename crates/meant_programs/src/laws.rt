@@ -1,6 +1,8 @@
 //! The laws of what modules of programs do, each the contract of a function that does nothing.
 
-/// Nothing yet.
+ghost use Rattle.meant_programs.specs.Mains.{MainIsFound};
+
+/// Main of a sequential program that breaks no rule is found, with its code, what is known and what memory carries there.
 pub fn main_is_found()
-    ensures { 0 }
+    ensures { MainIsFound }
 {}
