@@ -1,6 +1,9 @@
 //! The module of a program.
 
 ghost use Rattle.std.specs.Prelude.{◌≡◌, IfOk, Err, map};
+ghost use Rattle.std.specs.List.{AllByRecursion};
+ghost use Rattle.code_pieces.specs.PieceViews.{piece_of, pieces_of};
+ghost use Rattle.meant_code.specs.OwnCode.{OperandFits};
 ghost use Rattle.occam_parser.specs.BlockViews.{item_of};
 ghost use Rattle.program_meaning.specs.Sequential.{IsSequentialProgram};
 ghost use Rattle.compiler.specs.Compiled.{IsGenerated, IsTooLarge};
@@ -9,8 +12,27 @@ use crate::links::link_lengths;
 use certified_code::certified_module_of;
 use code_generator::code_of;
 use module_builder::GenFault;
+use code_pieces::Piece;
 use std::alloc::Global;
 use usage_checks::CheckedProgram;
+
+/// The operand of a piece is a word, as its type says.
+fn operand_is_word(piece: &Piece)
+    ensures { OperandFits (piece_of piece.now) }
+{
+    if let Piece::Direct { operand, .. } = piece {
+        let _word = *operand;
+    }
+}
+
+/// So is that of each piece.
+fn operands_are_words(pieces: &[Piece])
+    ensures { AllByRecursion OperandFits (pieces_of pieces.now) }
+{
+    for piece in pieces {
+        operand_is_word(piece);
+    }
+}
 
 /// The module of a program. Its bytes read as a module of version 2 that is certified, so no run of it has a fault. The
 /// links of `main` have the lengths of their messages, and the others 0.
@@ -27,6 +49,9 @@ pub fn generate(alloc: Global, program: &CheckedProgram) -> Result<Vec<u8>, GenF
 {
     let links = link_lengths(program.program().items());
     let code = code_of(alloc, program)?;
-    let bytes = certified_module_of(alloc, code.listing.into_pieces(), code.labels, links)?;
+    let labels = code.labels;
+    let pieces = code.listing.into_pieces();
+    operands_are_words(&pieces);
+    let bytes = certified_module_of(alloc, pieces, labels, links)?;
     Ok(bytes)
 }

@@ -1,2 +1,3 @@
 pub mod Globals
 pub mod Items
+pub mod Programs

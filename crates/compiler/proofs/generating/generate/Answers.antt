@@ -1,6 +1,12 @@
 use Rattle.std.proofs.Common.{◌≡◌, IfSome, Err, map, ap, sym, subst, ◌∙◌}
 use Rattle.module_builder.specs.declared.fault.GenFault.TheVariants.{Limit}
+use Rattle.std.proofs.Common.{true}
+use Rattle.std.specs.List.{AllByRecursion}
+use Rattle.code_pieces.specs.PieceViews.{pieces_of}
+use Rattle.meant_code.specs.OwnCode.{OperandFits}
 use Rattle.occam_parser.specs.BlockViews.{item_of}
+use Rattle.occam_parser.specs.Words.{items_have_words}
+use Rattle.usage_checks.specs.ItemRules.{BreaksNoRule}
 use Rattle.code_pieces.proofs.Faults.{handed_on}
 use Rattle.code_generator.specs.Programs.{code_of}
 use Rattle.compiler.specs.LinkLengths.{link_lengths}
@@ -10,9 +16,12 @@ use Rattle.compiler.proofs.generating.generate.Goals as goal
 pub returns-clause-ok : goal.returns-clause-ok
 returns-clause-ok c =
     generated_of (map item_of c.args.program.now.program.items.items) _ _ _ _
+    (subst (λ p. BreaksNoRule (map item_of p.items.items)) c.program.ensures.program c.program.ensures.unbroken)
+    (subst (λ p. items_have_words (map item_of p.items.items) ≡ true) c.program.ensures.program c.program.ensures.words)
+    (subst (λ ps. AllByRecursion OperandFits (pieces_of ps)) c.deref.ensures.value c.operands_are_words.ensures)
     (subst (λ code. IfSome (code_of (map item_of c.args.program.now.program.items.items)) (λ w. code ≡ w))
     (sym c.code.view_is) c.in_ok-code.ensures.ok)
-    c.into_pieces.ensures
+    c.into_pieces-pieces.ensures
     (c.link_lengths-links.ensures
     ∙ ap (λ xs. link_lengths (map item_of xs))
     (c.items.ensures.items ∙ ap (λ p. p.items.items) c.program.ensures.program))
@@ -32,7 +41,7 @@ returns-in_err-bytes-clause-limit c = λ e sequential.
     too_large_of (map item_of c.args.program.now.program.items.items) _ _ _ sequential
     (subst (λ code. IfSome (code_of (map item_of c.args.program.now.program.items.items)) (λ w. code ≡ w))
     (sym c.code.view_is) c.in_ok-code.ensures.ok)
-    c.into_pieces.ensures
+    c.into_pieces-pieces.ensures
     (c.link_lengths-links.ensures
     ∙ ap (λ xs. link_lengths (map item_of xs))
     (c.items.ensures.items ∙ ap (λ p. p.items.items) c.program.ensures.program))
