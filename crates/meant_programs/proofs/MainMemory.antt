@@ -1,9 +1,9 @@
 -- The memory of a loaded module of pieces carries no names where a program begins, and has bytes there.
-use Rattle.std.proofs.Common.{◌≡◌, ℕ, ◌+◌, ◌*◌, ◌<◌, ◌≤◌, List, [], ◌++◌, length, get_or, Some, refl, sym, subst, ap}
+use Rattle.std.proofs.Common.{◌≡◌, ℕ, ◌*◌, ◌<◌, ◌≤◌, List, [], ◌++◌, length, get_or, sym}
 use Rattle.std.proofs.Common.{arith, ◌∙◌}
 use Rattle.std.specs.Prelude.{replicate}
 use Rattle.std.proofs.lemmas.List.{get_or_append_left, get_or-replicate, length-append, length-replicate}
-use Rattle.machine_state.specs.Memory.{Memory, byte_at}
+use Rattle.machine_state.specs.Memory.{Memory}
 use Rattle.machine_state.specs.World.{padding}
 use Rattle.module_format.specs.Contents.{Contents}
 use Rattle.plain_machine.proofs.PlainBytes.{byte_at-defined, length-defined}
@@ -14,7 +14,6 @@ use Rattle.code_pieces.specs.LaidModule.{Says, laid_module}
 use Rattle.code_generator.specs.Programs.{first_word}
 use Rattle.placed_code.specs.Closing.{first_point}
 use Rattle.placed_code.specs.LaidCode.{laid_code}
-use Rattle.placed_code.specs.StraightPieces.{word_place}
 use Rattle.placed_code.proofs.TablesInMemory.{tables_are_loaded}
 use Rattle.meant_lines.specs.Carrying.{Carries}
 use Rattle.meant_actions.specs.Bytes.{HasBytes}

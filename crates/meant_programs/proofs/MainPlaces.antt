@@ -1,9 +1,9 @@
 -- Where the body of main begins: links have their homes behind the names before them, and memory carries these.
-use Rattle.std.proofs.Common.{◌≡◌, ℕ, zero, suc, ◌+◌, ◌≤◌, Bool, true, false, List, [], ◌∷◌, ◌++◌, length, map, Option}
+use Rattle.std.proofs.Common.{◌≡◌, ℕ, zero, suc, true, List, [], ◌∷◌, ◌++◌, length, map, Option}
 use Rattle.std.proofs.Common.{Some, None, refl, sym, subst, ap, arith, ◌∙◌, append_assoc}
 use Rattle.std.proofs.lemmas.Bool.{and_parts}
 use Rattle.std.proofs.lemmas.List.{append-nil, length-append, length-map}
-use Rattle.std.specs.Prelude.{ℤ, pos, slice_get}
+use Rattle.std.specs.Prelude.{slice_get}
 use Rattle.std.specs.List.{AllByRecursion}
 use Rattle.machine_state.specs.Memory.{Memory}
 use Rattle.occam_parser.specs.Lines.{Formal}
@@ -20,11 +20,11 @@ use Rattle.program_meaning.specs.GoingWell.{IsTrueIn}
 use Rattle.program_meaning.specs.Links.{Port}
 use Rattle.program_meaning.specs.Meaning.{bind_formals, no_ports, port_for}
 use Rattle.program_meaning.specs.Storing.{bind}
-use Rattle.usage_checks.specs.ItemRules.{around_in, in_body}
+use Rattle.usage_checks.specs.ItemRules.{around_in}
 use Rattle.usage_checks.specs.MainRules.{is_link_as, are_links}
 use Rattle.usage_checks.proofs.ActionsGoWell as usage
 use Rattle.code_pieces.specs.Pieces.{Code, Piece}
-use Rattle.line_pieces.specs.Homes.{Home, Nowhere, Link}
+use Rattle.line_pieces.specs.Homes.{Home, Link}
 use Rattle.code_generator.specs.Calls.{where_called}
 use Rattle.code_generator.specs.Processes.{Site}
 use Rattle.code_generator.specs.Programs.{home_of_port, link_of, in_main}
@@ -33,41 +33,29 @@ use Rattle.meant_lines.specs.Carrying.{Ground, IsKept, start_of, end_of, Carries
 use Rattle.meant_lines.proofs.Declaring.{new_names_are_carried}
 use Rattle.meant_lines.proofs.Words.{all_alike}
 use Rattle.meant_processes.specs.Places.{IsOwn, IsPlaced, Program}
-use Rattle.meant_programs.specs.Mains.{FoundMain, before_main}
+use Rattle.meant_programs.specs.Mains.{FoundMain, before_main, grounded}
 use Rattle.meant_programs.proofs.Globals.{Linked, formals_linked, formals_true, link_means, no_port, no_ports_long}
 
 -- ---- own names
 
-own_alike : (m : Meaning) → IsOwn m → usage.IsOwn m
-own_alike (Scalar scalar.Variable type range) own = tt
-own_alike (Scalar scalar.Value type range) own = tt
-own_alike (Scalar scalar.Reference type range) own = absurd own
-own_alike (Scalar scalar.Index type range) own = tt
-own_alike (Array array.Variable type size range) own = own
-own_alike (Array array.Table type size range) own = tt
-own_alike (Array array.Value type size range) own = tt
-own_alike (Constant type value) own = tt
-own_alike (Channel type) own = tt
-own_alike (Channels type size) own = tt
-own_alike (Procedure number) own = tt
+-- where processes are placed a name is its program's own as it is where programs go well
+own_same : (m : Meaning) → usage.IsOwn m ≡ IsOwn m
+own_same (Scalar scalar.Variable type range) = refl
+own_same (Scalar scalar.Value type range) = refl
+own_same (Scalar scalar.Reference type range) = refl
+own_same (Scalar scalar.Index type range) = refl
+own_same (Array array.Variable type size range) = refl
+own_same (Array array.Table type size range) = refl
+own_same (Array array.Value type size range) = refl
+own_same (Constant type value) = refl
+own_same (Channel type) = refl
+own_same (Channels type size) = refl
+own_same (Procedure number) = refl
 
-own_here : (m : Meaning) → usage.IsOwn m → IsOwn m
-own_here (Scalar scalar.Variable type range) own = tt
-own_here (Scalar scalar.Value type range) own = tt
-own_here (Scalar scalar.Reference type range) own = absurd own
-own_here (Scalar scalar.Index type range) own = tt
-own_here (Array array.Variable type size range) own = own
-own_here (Array array.Table type size range) own = tt
-own_here (Array array.Value type size range) own = tt
-own_here (Constant type value) own = tt
-own_here (Channel type) own = tt
-own_here (Channels type size) own = tt
-own_here (Procedure number) own = tt
-
-all_by : (P Q : Meaning → Type 0) → ((m : Meaning) → P m → Q m) → (es : List Entry)
-    → AllByRecursion (λ e. P e.meaning) es → AllByRecursion (λ e. Q e.meaning) es
-all_by P Q by [] all = tt
-all_by P Q by (e ∷ es) all = (by e.meaning all.0, all_by P Q by es all.1)
+-- so are all names of a scope
+pub all_own : (es : List Entry) → AllByRecursion (λ e. usage.IsOwn e.meaning) es
+    ≡ AllByRecursion (λ e. IsOwn e.meaning) es
+all_own es = λ i. AllByRecursion (λ e. own_same e.meaning i) es
 
 -- ---- homes of links
 
@@ -156,7 +144,7 @@ module _ (items : List ProgramItem) (c : LaidCode) (words : ℕ) (whole : List P
       let es = found.outside.known.entries in
       formals_linked es formals es (no_ports found.names) found.links (record {
         long = no_ports_long found.names ∙ as_long found.names es found.holds.meets ∙ sym (shape_long es);
-        own = all_by IsOwn usage.IsOwn own_alike (shape es) found.own;
+        own = subst (λ (T : Type 0). T) (sym (all_own (shape es))) found.own;
         ports = λ n q at. absurd (no_port n found.names q at);
       })
 
@@ -175,7 +163,7 @@ module _ (items : List ProgramItem) (c : LaidCode) (words : ℕ) (whole : List P
       let second = length-map formals (λ x. home_of_port (port_for x)) in
       record {
         counted = found.counted;
-        own = all_by usage.IsOwn IsOwn own_here (shape main_site.known.entries) linked.own;
+        own = subst (λ (T : Type 0). T) (all_own (shape main_site.known.entries)) linked.own;
         channels = linked.ports;
         links = λ n port at. links_housed found.frame.homes found.names formals n port (omega (arith, named, homes)) at;
         low = omega (arith, begun);
@@ -183,9 +171,9 @@ module _ (items : List ProgramItem) (c : LaidCode) (words : ℕ) (whole : List P
         holds = formals_true es formals es found.names found.links found.holds;
       }
 
-  pub main_carried : Carries (record { footing = c.footing; words = words; pieces = whole; homes = main_site.frame.homes;
-      turns = λ w. pos 0 }) main_site.frame.top main_site.known.entries main_names m
+  pub main_carried : Carries (grounded c.footing words whole main_site.frame.homes) main_site.frame.top
+      main_site.known.entries main_names m
   main_carried =
       let es = found.outside.known.entries in
-      formals_carried (record { footing = c.footing; words = words; pieces = whole; homes = found.frame.homes;
-      turns = λ w. pos 0 }) found.frame.top es formals es found.names m found.links found.holds found.long found.carries
+      formals_carried (grounded c.footing words whole found.frame.homes) found.frame.top es formals es found.names m
+      found.links found.holds found.long found.carries

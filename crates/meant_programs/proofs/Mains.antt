@@ -1,7 +1,7 @@
 -- Main's code does what main does, and where that leaves names, the module finishes next.
-use Rattle.std.proofs.Common.{◌≡◌, ℕ, ◌+◌, ◌<◌, ℤ, pos, Bool, true, false, cond, List, [], ◌∷◌, ◌++◌, length, map, Some}
-use Rattle.std.proofs.Common.{Option, None, inl, inr, refl, sym, subst, ap, arith, ◌∙◌, drop}
-use Rattle.std.specs.Prelude.{◌&&◌, Result, Ok, Err}
+use Rattle.std.proofs.Common.{◌≡◌, ℕ, ◌<◌, ℤ, pos, Bool, true, false, cond, List, [], ◌∷◌, ◌++◌, length, Some}
+use Rattle.std.proofs.Common.{inl, inr, refl, sym, subst, ap, ◌∙◌}
+use Rattle.std.specs.Prelude.{◌&&◌}
 use Rattle.std.specs.List.{AllByRecursion}
 use Rattle.std.proofs.lemmas.Bool.{cases_lt}
 use Rattle.std.proofs.lemmas.List.{append-nil}
@@ -13,32 +13,29 @@ use Rattle.machine_state.specs.Instructions.{instruction_of, op_of}
 use Rattle.module_builder.specs.Layouts.{offset}
 use Rattle.occam_parser.specs.Blocks.{ProgramItem}
 use Rattle.scalar_ranges.specs.Environments.{Environment}
-use Rattle.program_meaning.specs.Doing.{Doing, doing}
-use Rattle.program_meaning.specs.Links.{Port}
 use Rattle.usage_checks.specs.ItemRules.{BreaksNoRule, in_body}
 use Rattle.usage_checks.specs.Reaching.{in_procedure, to_body}
 use Rattle.code_pieces.specs.declared.operations.TheConstants.{STOP_PROCESS}
 use Rattle.code_pieces.specs.Pars.{in_root}
 use Rattle.code_pieces.specs.Pieces.{Code, Piece, constant, operates}
-use Rattle.code_pieces.specs.Laying.{apart, apart_from, apart_piece, at_row_behind, draft_code, is_row, tables_before}
+use Rattle.code_pieces.specs.Laying.{apart, apart_from, at_row_behind, draft_code, is_row, tables_before}
 use Rattle.code_pieces.specs.Laying.{words_taken}
 use Rattle.code_pieces.specs.LaidModule.{Says, laid_module}
 use Rattle.code_generator.specs.Programs.{code_of}
 use Rattle.code_generator.specs.Processes.{Site, process_code}
-use Rattle.placed_code.specs.Behaves.{Behaves, Finishes, over}
+use Rattle.placed_code.specs.Behaves.{Finishes, over}
 use Rattle.placed_code.specs.Closing.{first_point}
 use Rattle.placed_code.specs.LaidCode as laid
 use Rattle.placed_code.specs.LaidCode.{LaidCode, Fetches, Lie, item_count, laid_code}
-use Rattle.placed_code.specs.Points.{Point, point}
+use Rattle.placed_code.specs.Points.{Point}
 use Rattle.placed_code.specs.StraightPieces.{Held}
 use Rattle.placed_code.proofs.Finishing.{length-spelled}
 use Rattle.placed_code.proofs.PiecesLie.{length-items, pieces_lie}
-use Rattle.meant_lines.specs.Pushing.{StandsOn}
 use Rattle.meant_lines.proofs.PartsStand.{code_stores_within, parts_stand}
 use Rattle.meant_code.specs.OwnCode.{OperandFits}
 use Rattle.meant_code.proofs.AmongOthers.{parts_stay_parts}
 use Rattle.meant_code.proofs.OwnPrograms.{labels_stay_once}
-use Rattle.meant_processes.specs.Lying.{ComesTo, LieApart}
+use Rattle.meant_processes.specs.Lying.{LieApart}
 use Rattle.meant_processes.specs.Places.{AllFit, CarriedAt, FitsIn, Program, ground, surroundings}
 use Rattle.meant_processes.specs.Premises.{DeclarationsOpen, LinesBehave}
 use Rattle.meant_processes.proofs.Behaving.{goes_on_behind}
