@@ -47,6 +47,9 @@ use Rattle.meant_lines.proofs.Declaring.{new_names_are_carried}
 use Rattle.meant_lines.proofs.Opening.{declarations_are_carried}
 use Rattle.meant_processes.specs.Places.{IsOwn}
 use Rattle.meant_programs.specs.Mains.{grounded, before_main, MainIsFound}
+use Rattle.meant_programs.specs.Mains.{IsFixed}
+use Rattle.meant_programs.proofs.MainPlaces.{all_own}
+use Rattle.scalar_ranges.specs.declared.scope.ArrayKind.TheVariants as array
 use Rattle.meant_programs.proofs.Globals.{Before, weighed_before, item_after, procedure_leaves, last_of}
 use Rattle.meant_programs.proofs.Globals.{last_is_main, globals_own}
 
@@ -60,12 +63,19 @@ weighing_knows None ms o = refl
 weighed_knows : (item : ProgramItem) (o : Outside) → (weighed item o).known ≡ o.known
 weighed_knows item o = weighing_knows o.uncounted (measures_of_item o.signatures o.known.entries item) o
 
-own_here : (m : Meaning) → going.IsOwn m → IsOwn m
-own_here m is = is
+fixed_here : (m : Meaning) → IsGlobal m → IsFixed m
+fixed_here (entries.Constant type value) is = tt
+fixed_here (entries.Array array.Table type size range) is = tt
+fixed_here (entries.Array array.Variable type size range) is = absurd is
+fixed_here (entries.Array array.Value type size range) is = absurd is
+fixed_here (entries.Procedure number) is = tt
+fixed_here (entries.Scalar kind type range) is = absurd is
+fixed_here (entries.Channel type) is = absurd is
+fixed_here (entries.Channels type size) is = absurd is
 
-all_own : (es : List Entry) → AllByRecursion (λ e. going.IsOwn e.meaning) es → AllByRecursion (λ e. IsOwn e.meaning) es
-all_own [] all = tt
-all_own (e ∷ es) all = (own_here e.meaning all.0, all_own es all.1)
+all_fixed : (es : List Entry) → AllByRecursion (λ e. IsGlobal e.meaning) es → AllByRecursion (λ e. IsFixed e.meaning) es
+all_fixed [] all = tt
+all_fixed (e ∷ es) all = (fixed_here e.meaning all.0, all_fixed es all.1)
 
 -- the code of nothing changes nothing
 nothing_leads : (w : Footing) (h k : pieces.Held) → LeadOn w [] h k → h ≡ k
@@ -140,6 +150,7 @@ module _ (footing : Footing) (words : ℕ) (whole : List Piece) (m : Memory) whe
       pub comes : (o : Outside) (x : ProgramItem) → Comes o x (item ∷ rest) before → Comes o x items outermost
       pub main : is_main (last_of item rest) ≡ true
       pub sequential : IsSequentialProgram (item ∷ rest)
+      pub no_channel : MainDeclaresNoChannel (item ∷ rest)
       pub has_words : items_have_words (item ∷ rest) ≡ true
       pub truth : Before before env
       pub carried : Carried f before.known.entries env
@@ -158,8 +169,10 @@ module _ (footing : Footing) (words : ℕ) (whole : List Piece) (m : Memory) whe
           (before_main outside frame) ≡ Some code
       pub truth : Before outside names
       pub carried : Carried frame outside.known.entries names
+      pub named : is_main_name procedure.head.name ≡ true
       pub links : are_links procedure.head.formals ≡ true
       pub sequential : IsSequential procedure.body
+      pub no_channel : DeclaresNoChannel procedure.body
       pub has_words : process_has_words procedure.body ≡ true
 
     last_found_here : (before : Outside) (p : Procedure) (env : Environment) (cs : List Callee) (f : Frame) (code : Code)
@@ -179,8 +192,10 @@ module _ (footing : Footing) (words : ℕ) (whole : List Piece) (m : Memory) whe
           is = is;
           truth = weighed_before item before env (λ x y. stands.unbroken x (inl (inl y))) stands.truth;
           carried = subst (λ (k : Known). Carried f k.entries env) (sym (weighed_knows item before)) stands.carried;
+          named = (and_parts (is_main_name p.head.name) (are_links p.head.formals) stands.main).0;
           links = (and_parts (is_main_name p.head.name) (are_links p.head.formals) stands.main).1;
           sequential = stands.sequential;
+          no_channel = stands.no_channel;
           has_words = (and_parts (list_all formal_has_words p.head.formals) (process_has_words p.body)
               (and_parts (item_has_words item) (list_all item_has_words []) stands.has_words).0).1;
         }
@@ -189,6 +204,11 @@ module _ (footing : Footing) (words : ℕ) (whole : List Piece) (m : Memory) whe
         → IsSequentialProgram (next ∷ rest)
     further_sequential (GlobalConstant c) next rest sequential = sequential
     further_sequential (GlobalProcedure p) next rest sequential = sequential
+
+    further_apart : (item next : ProgramItem) (rest : List ProgramItem) → MainDeclaresNoChannel (item ∷ next ∷ rest)
+        → MainDeclaresNoChannel (next ∷ rest)
+    further_apart (GlobalConstant c) next rest apart = apart
+    further_apart (GlobalProcedure p) next rest apart = apart
 
     -- what memory carries after an item
     after_carried : (item : ProgramItem) (o : Outside) (f : Frame) (env inner : Environment)
@@ -220,6 +240,7 @@ module _ (footing : Footing) (words : ℕ) (whole : List Piece) (m : Memory) whe
           comes = λ o x later. stands.comes o x (inr later);
           main = stands.main;
           sequential = further_sequential item next rest stands.sequential;
+          no_channel = further_apart item next rest stands.no_channel;
           has_words = both.1;
           truth = truth;
           carried = subst (λ (g : Frame). Carried g (after_item item before).known.entries inner)
@@ -244,8 +265,10 @@ module _ (footing : Footing) (words : ℕ) (whole : List Piece) (m : Memory) whe
       is = found.is;
       truth = found.truth;
       carried = found.carried;
+      named = found.named;
       links = found.links;
       sequential = found.sequential;
+      no_channel = found.no_channel;
       has_words = found.has_words;
     }
 
@@ -267,14 +290,15 @@ module _ (footing : Footing) (words : ℕ) (whole : List Piece) (m : Memory) whe
         (stands_next before item next rest f env inner stands declares after) is))
 
 pub main_is_found : MainIsFound
-main_is_found [] code footing words whole m none sequential has_words is carries = absurd sequential
-main_is_found (item ∷ rest) code footing words whole m none sequential has_words is carries =
+main_is_found [] code footing words whole m none sequential apart has_words is carries = absurd sequential
+main_is_found (item ∷ rest) code footing words whole m none sequential apart has_words is carries =
     let items = item ∷ rest in
     let found = find footing words whole m items none outermost item rest [] [] no_frame code (record {
       unbroken = λ f x. none f (inl x);
       comes = λ o x h. h;
       main = last_is_main item rest none;
       sequential = sequential;
+      no_channel = apart;
       has_words = has_words;
       truth = record { holds = record { meets = tt; typed = tt }; global = tt; blocks = refl; counted = refl };
       carried = record { carries = carries; long = refl; top = refl };
@@ -289,13 +313,17 @@ main_is_found (item ∷ rest) code footing words whole m none sequential has_wor
       runs = found.runs;
       is = found.is;
       holds = found.truth.holds;
-      own = all_own (shape found.outside.known.entries) (globals_own found.outside.known.entries found.truth.global);
+      own = subst (λ (T : Type 0). T) (all_own (shape found.outside.known.entries))
+          (globals_own found.outside.known.entries found.truth.global);
+      fixed = all_fixed found.outside.known.entries found.truth.global;
       blocks = found.truth.blocks;
       counted = found.truth.counted;
       long = found.carried.long;
       top = found.carried.top;
       carries = found.carried.carries;
+      named = found.named;
       links = found.links;
       sequential = found.sequential;
+      no_channel = found.no_channel;
       has_words = found.has_words;
     }

@@ -1,3 +1,6 @@
 pub mod Globals
+pub mod MainMemory
+pub mod MainPlaces
+pub mod Mains
 pub mod Items
 pub mod Programs

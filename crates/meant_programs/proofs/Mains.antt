@@ -37,7 +37,7 @@ use Rattle.meant_code.proofs.AmongOthers.{parts_stay_parts}
 use Rattle.meant_code.proofs.OwnPrograms.{labels_stay_once}
 use Rattle.meant_processes.specs.Lying.{LieApart}
 use Rattle.meant_processes.specs.Places.{AllFit, CarriedAt, FitsIn, Program, ground, surroundings}
-use Rattle.meant_processes.specs.Premises.{DeclarationsOpen, LinesBehave}
+use Rattle.meant_processes.specs.Channels.{DeclaresNoChannel}
 use Rattle.meant_processes.proofs.Behaving.{goes_on_behind}
 use Rattle.meant_processes.proofs.CodeParts.{all_first, closed_is}
 use Rattle.meant_processes.proofs.Lying.{apart_both, pieces_lie_apart, straight_lie}
@@ -147,9 +147,9 @@ module _ (items : List ProgramItem) (code : Code) (links bytes : List ℕ) (none
           (first_bytes ps code.labels links bytes says);
     }
 
-    pub main_behaves : LinesBehave p → DeclarationsOpen p
+    pub main_behaves : DeclaresNoChannel found.procedure.body
         → MainBehaves c (first_point (laid_module ps code.labels links says.arrangement)) items
-    main_behaves lines opens =
+    main_behaves apart =
         let o = found.outside in
         let main = found.procedure in
         let stops : List Piece = operates STOP_PROCESS ∷ [] in
@@ -159,8 +159,8 @@ module _ (items : List ProgramItem) (code : Code) (links bytes : List ℕ) (none
         let stop = straight_lie c both.after_row both.middle end stops (tt, tt) both.second in
         let inside = stop_before c both.middle end stop code_ends in
         let fits = all_first (FitsIn p) closed.first.pieces stops (subst (AllFit p) closed.pieces all_fit) in
-        let means = processes_behave p main.body none found.sequential found.has_words lines opens
-        (in_procedure o main).position (length (in_body main o.known).entries) site (λ w. pos 0) names closed.first
+        let means = processes_behave p main.body none found.sequential found.has_words apart refl
+        (length (in_body main o.known).entries) site (λ w. pos 0) names closed.first
         (to_body o main found.comes) (main_placed items c (words_taken ps) ps h.memory code found) closed.is fits in
         record {
           main = record { ports = p.ports; body = main.body; names = names; runs = found.runs };

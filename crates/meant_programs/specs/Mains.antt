@@ -2,8 +2,11 @@
 use Rattle.std.specs.Prelude.{◌≡◌, true, ℕ, pos, Bool, List, [], length, None, Some}
 use Rattle.std.specs.List.{AllByRecursion}
 use Rattle.machine_state.specs.Memory.{Memory}
-use Rattle.occam_parser.specs.Blocks.{Procedure, ProgramItem, GlobalProcedure}
+use Rattle.occam_parser.specs.Blocks.{Procedure, ProgramItem, GlobalConstant, GlobalProcedure}
 use Rattle.occam_parser.specs.Words.{process_has_words, items_have_words}
+use Rattle.scalar_ranges.specs.declared.scope.ArrayKind.TheVariants as array
+use Rattle.scalar_ranges.specs.Entries as entries
+use Rattle.scalar_ranges.specs.Entries.{Meaning, Constant, Array}
 use Rattle.scalar_ranges.specs.Environments.{Environment}
 use Rattle.scalar_ranges.specs.MoveLaws.{shape}
 use Rattle.program_meaning.specs.GoingWell.{IsTrueIn}
@@ -11,7 +14,7 @@ use Rattle.program_meaning.specs.Links.{Links}
 use Rattle.program_meaning.specs.Meaning.{in_main, run_program}
 use Rattle.program_meaning.specs.Sequential.{IsSequential, IsSequentialProgram}
 use Rattle.usage_checks.specs.ItemRules.{Outside, outermost, around_in, BreaksNoRule}
-use Rattle.usage_checks.specs.MainRules.{are_links}
+use Rattle.usage_checks.specs.MainRules.{are_links, is_main_name}
 use Rattle.usage_checks.specs.Reaching.{Comes}
 use Rattle.code_pieces.specs.Pieces.{Code, Piece}
 use Rattle.line_pieces.specs.Homes.{Home}
@@ -21,6 +24,7 @@ use Rattle.code_generator.specs.Processes.{Site}
 use Rattle.code_generator.specs.Programs.{first_word, main_code, code_of}
 use Rattle.placed_code.specs.StraightPieces.{Footing}
 use Rattle.meant_lines.specs.Carrying.{Ground, Carries}
+use Rattle.meant_processes.specs.Channels.{DeclaresNoChannel}
 use Rattle.meant_processes.specs.Places.{IsOwn}
 
 -- the ground under main, where no loop is open
@@ -31,6 +35,20 @@ grounded footing words whole homes =
 -- where main's links are declared
 abbrev pub before_main : Outside → Frame → Site
 before_main o f = record { frame = f; known = o.known; label = 0 }
+
+-- a constant, a table or a procedure
+abbrev pub IsFixed : Meaning → Type 0
+IsFixed (Constant type value) = Unit {0}
+IsFixed (Array array.Table type size range) = Unit {0}
+IsFixed (entries.Procedure number) = Unit {0}
+IsFixed m = ⊥
+
+-- Main declares no channel, and has no use for one: it has no PAR.
+abbrev pub MainDeclaresNoChannel : List ProgramItem → Type 0
+MainDeclaresNoChannel [] = ⊥
+MainDeclaresNoChannel (GlobalConstant c ∷ []) = ⊥
+MainDeclaresNoChannel (GlobalProcedure p ∷ []) = DeclaresNoChannel p.body
+MainDeclaresNoChannel (item ∷ next ∷ items) = MainDeclaresNoChannel (next ∷ items)
 
 -- Main of a program with this code, where memory carries the names before it.
 pub record FoundMain (items : List ProgramItem) (footing : Footing) (words : ℕ) (whole : List Piece) (m : Memory)
@@ -46,17 +64,20 @@ pub record FoundMain (items : List ProgramItem) (footing : Footing) (words : ℕ
       (before_main outside frame) ≡ Some code
   pub holds : IsTrueIn outside.known.entries names
   pub own : AllByRecursion (λ e. IsOwn e.meaning) (shape outside.known.entries)
+  pub fixed : AllByRecursion (λ e. IsFixed e.meaning) outside.known.entries
   pub blocks : outside.known.blocks ≡ []
   pub counted : outside.uncounted ≡ None
   pub long : length frame.homes ≡ length outside.known.entries
   pub top : frame.top ≡ first_word
   pub carries : Carries (grounded footing words whole frame.homes) frame.top outside.known.entries names m
+  pub named : is_main_name procedure.head.name ≡ true
   pub links : are_links procedure.head.formals ≡ true
   pub sequential : IsSequential procedure.body
+  pub no_channel : DeclaresNoChannel procedure.body
   pub has_words : process_has_words procedure.body ≡ true
 
 -- Main of a sequential program that breaks no rule is found, where memory carries that there are no names.
 abbrev pub MainIsFound : Type 0
 MainIsFound = (items : List ProgramItem) (code : Code) (footing : Footing) (words : ℕ) (whole : List Piece) (m : Memory)
-    → BreaksNoRule items → IsSequentialProgram items → items_have_words items ≡ true → code_of items ≡ Some code
-    → Carries (grounded footing words whole []) first_word [] [] m → FoundMain items footing words whole m code
+    → BreaksNoRule items → IsSequentialProgram items → MainDeclaresNoChannel items → items_have_words items ≡ true
+    → code_of items ≡ Some code → Carries (grounded footing words whole []) first_word [] [] m → FoundMain items footing words whole m code

@@ -3,4 +3,4 @@
 
 mod laws;
 
-pub use laws::main_is_found;
+pub use laws::{main_is_found, programs_run_as_meant};
