@@ -21,3 +21,4 @@ pub mod TablesInMemory
 pub mod RowsFound
 pub mod SaidWords
 pub mod NumbersCover
+pub mod OneProcess

@@ -8,3 +8,4 @@ pub mod TablesInMemory
 pub mod RowsFound
 pub mod SaidWords
 pub mod NumbersCover
+pub mod OneProcess

@@ -6,6 +6,7 @@ ghost use Rattle.placed_code.specs.Closing.{LaidModulesFinish};
 ghost use Rattle.placed_code.specs.Instructions.{ItemsAreFetched};
 ghost use Rattle.placed_code.specs.LaidCode.{PiecesLie};
 ghost use Rattle.placed_code.specs.NumbersCover.{PiecesTakeTheirBytes, LabelsKeepTheirNumbers, NumbersCover};
+ghost use Rattle.placed_code.specs.OneProcess.{RootHasItsWords, RootHasItsLinks, TablesAreRows, WalkBegins};
 ghost use Rattle.placed_code.specs.Points.{PiecesGo, PointsAreComeTo};
 ghost use Rattle.placed_code.specs.RowsFound.{RowsKeepTheirOrder, RowsAreFound, NoRowIsElsewhere};
 ghost use Rattle.placed_code.specs.RowsFound.{NoRowIsBeforeOthers, NoRowIsInside};
@@ -119,4 +120,14 @@ pub fn labels_keep_their_numbers()
 /// of a label to which it leads; at the head of a loop its turns too, and at the end of a turn the next one.
 pub fn numbers_cover()
     ensures { NumbersCover }
+{}
+
+/// The root of a module of pieces without PARs may write and read each word of its frame, and has the ends of the links
+/// that take messages. The tables say that an instruction starts where there is a row, and nowhere else; and the walk
+/// of the verifier begins at the first byte with nothing known.
+pub fn walks_begin()
+    ensures words { RootHasItsWords }
+    ensures links { RootHasItsLinks }
+    ensures tables { TablesAreRows }
+    ensures begins { WalkBegins }
 {}
