@@ -1,0 +1,14 @@
+pub mod ClimbingKeys
+pub mod CodeBytes
+pub mod SaidEntries
+pub mod TableRows
+pub mod SmallNumbers
+pub mod LabelRows
+pub mod ModulesValid
+pub mod ScopesInTurn
+pub mod RowsInTurn
+pub mod ValidPrograms
+pub mod BoundsOfNumbers
+pub mod MovesOfNumbers
+pub mod NumbersStay
+pub mod RangesSaid

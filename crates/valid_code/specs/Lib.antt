@@ -1,0 +1,6 @@
+pub mod ValidPieces
+pub mod ValidModules
+pub mod RowsInTurn
+pub mod ValidPrograms
+pub mod Numbers
+pub mod RangesSaid

@@ -1,0 +1,36 @@
+//! The laws of valid modules, each the contract of a function that does nothing.
+
+ghost use Rattle.valid_code.specs.Numbers.{BoundsHaveNumbers, MovesKeepNumbers};
+ghost use Rattle.valid_code.specs.RangesSaid.{RangesAreSaid};
+ghost use Rattle.valid_code.specs.RowsInTurn.{RowsAreInTurn};
+ghost use Rattle.valid_code.specs.ValidModules.{RowsAreApart, ModulesAreValid, PiecesAreSaid};
+ghost use Rattle.valid_code.specs.ValidPrograms.{ProgramsAreValid, SequentialModulesAreValid};
+
+/// A module of valid pieces keeps the rules of the format, if no number of it is above a limit, and so has a file. In
+/// any pieces, rows that are kept apart are so.
+pub fn modules_are_valid()
+    ensures apart { RowsAreApart }
+    ensures valid { ModulesAreValid }
+    ensures said { PiecesAreSaid }
+{}
+
+/// In the code of a sequential program each row is of words in turn, all of which the code takes, and each range that it
+/// says is one of words.
+pub fn rows_say_words()
+    ensures turn { RowsAreInTurn }
+    ensures ranges { RangesAreSaid }
+{}
+
+/// The pieces of a sequential program are valid, and so its module keeps the rules of the format, if a file can say their
+/// loops and tables.
+pub fn programs_are_valid()
+    ensures pieces { ProgramsAreValid }
+    ensures modules { SequentialModulesAreValid }
+{}
+
+/// Where the range of each name has numbers, so has that of an expression, and each move of the walk over a sequential
+/// process keeps that.
+pub fn numbers_are_kept()
+    ensures bounds { BoundsHaveNumbers }
+    ensures moves { MovesKeepNumbers }
+{}

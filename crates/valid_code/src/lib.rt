@@ -1,0 +1,6 @@
+//! That the pieces of programs make valid modules: laws on what pieces say, and on the modules that say them.
+#![tactic(auto)]
+
+mod laws;
+
+pub use laws::{modules_are_valid, numbers_are_kept, programs_are_valid, rows_say_words};
