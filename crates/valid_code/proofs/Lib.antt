@@ -12,3 +12,5 @@ pub mod BoundsOfNumbers
 pub mod MovesOfNumbers
 pub mod NumbersStay
 pub mod RangesSaid
+pub mod KeptApart
+pub mod WellFormed

@@ -1,7 +1,7 @@
 -- The pieces of sequential programs are valid, and so are the modules that say them.
-use Rattle.std.proofs.Common.{◌≡◌, ℕ, Bool, true, false, cond, List, [], ◌∷◌, ◌++◌, Option, Some, None, refl}
-use Rattle.std.proofs.Common.{sym, ap, subst, ◌∙◌, arith, pos}
-use Rattle.std.specs.Prelude.{⊤, ◌&&◌}
+use Rattle.std.proofs.Common.{◌≡◌, ℕ, Bool, true, false, List, [], ◌∷◌, ◌++◌, Option, Some, None, refl}
+use Rattle.std.proofs.Common.{sym, ap, subst, ◌∙◌, arith}
+use Rattle.std.specs.Prelude.{⊤}
 use Rattle.std.specs.List.{AllByRecursion}
 use Rattle.occam_parser.specs.Blocks.{GlobalConstant, GlobalProcedure, ProgramItem}
 use Rattle.usage_checks.specs.ItemRules.{Outside, after_item, around_in, outermost, weighed}
@@ -10,8 +10,8 @@ use Rattle.code_pieces.specs.declared.piece.RowEntry.{RowEntry}
 use Rattle.code_pieces.specs.declared.piece.WordFact.{WordFact}
 use Rattle.code_pieces.specs.declared.piece.WordFact.TheVariants.{Between, Turning}
 use Rattle.code_pieces.specs.Pieces.{Code, Direct, Distance, Jump, JumpUnless, LoopBack, Par, Piece, Place, Row, Select}
-use Rattle.code_pieces.specs.Pieces.{StartBranch, TableAddress, Within, closed_by, constant, operates}
-use Rattle.code_pieces.specs.Laying.{apart, apart_from, at_row_behind, is_row, words_taken}
+use Rattle.code_pieces.specs.Pieces.{StartBranch, TableAddress, Within, closed_by, operates}
+use Rattle.code_pieces.specs.Laying.{apart, apart_from, words_taken}
 use Rattle.line_pieces.specs.Declarations.{Frame}
 use Rattle.code_generator.specs.Calls.{Callee, where_called}
 use Rattle.code_generator.specs.Processes.{process_code}
@@ -24,6 +24,7 @@ use Rattle.valid_code.specs.RowsInTurn.{IsRowInTurn}
 use Rattle.valid_code.specs.RangesSaid.{AreRangesSaid, IsRangeSaid, SaysRanges}
 use Rattle.valid_code.specs.ValidPieces.{AreSayable, EndInInstruction, IsSayable, IsValidPiece}
 use Rattle.valid_code.specs.ValidPrograms.{IsLoopSaid, ProgramsAreValid, SaysLoops, SequentialModulesAreValid}
+use Rattle.valid_code.proofs.KeptApart.{apart_all}
 use Rattle.valid_code.proofs.ModulesValid.{modules_are_valid, rows_are_apart}
 use Rattle.valid_code.proofs.RangesSaid.{ranges_are_said}
 use Rattle.valid_code.proofs.RowsInTurn.{rows_are_in_turn}
@@ -106,26 +107,12 @@ pieces_valid words [] plain turn ranges loops = tt
 pieces_valid words (p ∷ ps) plain turn ranges loops =
     (piece_valid words p plain.0 turn.0 ranges.0 loops.0, pieces_valid words ps plain.1 turn.1 ranges.1 loops.1)
 
--- and once rows are kept apart
-filled_valid : (b : Bool) (words : ℕ) (p : Piece) (rest : List Piece) → IsValidPiece words p
-    → AllByRecursion (IsValidPiece words) rest
-    → AllByRecursion (IsValidPiece words) (cond b (constant (pos 0) ∷ p ∷ []) (p ∷ []) ++ rest)
-filled_valid true words p rest valid others = (tt, (valid, others))
-filled_valid false words p rest valid others = (valid, others)
-
-apart_valid : (words : ℕ) (at_row : Bool) (ps : List Piece) → AllByRecursion (IsValidPiece words) ps
-    → AllByRecursion (IsValidPiece words) (apart_from at_row ps)
-apart_valid words at_row [] valid = tt
-apart_valid words at_row (p ∷ ps) valid =
-    let next = at_row_behind p at_row in
-    filled_valid (at_row && is_row p) words p (apart_from next ps) valid.0 (apart_valid words next ps valid.1)
-
 pub programs_are_valid : ProgramsAreValid
 programs_are_valid items c seq words is loops few =
     let ps = c.pieces in
     record {
       each = subst (λ (words : ℕ). AllByRecursion (IsValidPiece words) (apart ps)) (sym (apart_takes_no_more ps))
-          (apart_valid (words_taken ps) true ps
+          (apart_all (IsValidPiece (words_taken ps)) true ps tt
           (pieces_valid (words_taken ps) ps (programs_are_own items c is).0.plain (rows_are_in_turn items c seq is few)
           (ranges_are_said items c seq words is) loops));
       once = labels_stay_once items c is;

@@ -4,3 +4,4 @@ pub mod RowsInTurn
 pub mod ValidPrograms
 pub mod Numbers
 pub mod RangesSaid
+pub mod WellFormed

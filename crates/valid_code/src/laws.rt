@@ -4,6 +4,7 @@ ghost use Rattle.valid_code.specs.Numbers.{BoundsHaveNumbers, MovesKeepNumbers};
 ghost use Rattle.valid_code.specs.RangesSaid.{RangesAreSaid};
 ghost use Rattle.valid_code.specs.RowsInTurn.{RowsAreInTurn};
 ghost use Rattle.valid_code.specs.ValidModules.{RowsAreApart, ModulesAreValid, PiecesAreSaid};
+ghost use Rattle.valid_code.specs.WellFormed.{ProgramsAreWellFormed};
 ghost use Rattle.valid_code.specs.ValidPrograms.{ProgramsAreValid, SequentialModulesAreValid};
 
 /// A module of valid pieces keeps the rules of the format, if no number of it is above a limit, and so has a file. In
@@ -26,6 +27,12 @@ pub fn rows_say_words()
 pub fn programs_are_valid()
     ensures pieces { ProgramsAreValid }
     ensures modules { SequentialModulesAreValid }
+{}
+
+/// Each label that a sequential program names is placed in it, its operands are words and its rows are of words that a
+/// frame may have, if its constants are words and the heads of its loops are there.
+pub fn programs_are_well_formed()
+    ensures { ProgramsAreWellFormed }
 {}
 
 /// Where the range of each name has numbers, so has that of an expression, and each move of the walk over a sequential

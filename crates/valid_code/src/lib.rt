@@ -3,4 +3,7 @@
 
 mod laws;
 
-pub use laws::{modules_are_valid, numbers_are_kept, programs_are_valid, rows_say_words};
+pub use laws::{
+    modules_are_valid, numbers_are_kept, programs_are_valid, programs_are_well_formed,
+    rows_say_words,
+};
