@@ -11,6 +11,8 @@ pub mod ValidPrograms
 pub mod BoundsOfNumbers
 pub mod MovesOfNumbers
 pub mod NumbersStay
-pub mod RangesSaid
+pub mod LoopsFit
+pub mod BelowLabels
+pub mod RowsSaid
 pub mod KeptApart
 pub mod WellFormed

@@ -263,7 +263,7 @@ exact_has (Ok (Within r)) v is has = absurd (cc)
 exact_has (Err e) v is has = absurd (cc)
 
 -- the value of a constant is a word
-value_has : (es : List Entry) (t : ExprType) (e : Expression) (v : ℤ) → HaveNumbers es → has_words e ≡ true
+pub value_has : (es : List Entry) (t : ExprType) (e : Expression) (v : ℤ) → HaveNumbers es → has_words e ≡ true
     → value_as es t e ≡ Some v → FitsSigned w32 v
 value_has es t e v have words is =
     exact_has (bound_of es e) v (value_by (has_type t (type_of es e)) (exact_value (bound_of es e)) v is)
@@ -351,11 +351,11 @@ constant_has es type (lines.Bytes size bs) have words =
     table_has type (size_in es size) (length bs) (range_of_bytes type bs)
     (text_has type bs (and_parts (has_words size) (are_bytes bs) words).1)
 
-variable_has : (es : List Entry) (type : ValueType) (size : Option Expression) → HasNumbers (variable_meaning es type size)
+pub variable_has : (es : List Entry) (type : ValueType) (size : Option Expression) → HasNumbers (variable_meaning es type size)
 variable_has es type None = one_number (pos 0) (omega (arith, ints))
 variable_has es type (Some e) = of_a_type type
 
-channel_has : (es : List Entry) (type : ValueType) (size : Option Expression) → HasNumbers (channel_meaning es type size)
+pub channel_has : (es : List Entry) (type : ValueType) (size : Option Expression) → HasNumbers (channel_meaning es type size)
 channel_has es type None = tt
 channel_has es type (Some e) = tt
 

@@ -6,11 +6,8 @@ use Rattle.std.specs.List.{AllByRecursion}
 use Rattle.occam_parser.specs.Blocks.{GlobalConstant, GlobalProcedure, ProgramItem}
 use Rattle.usage_checks.specs.ItemRules.{Outside, after_item, around_in, outermost, weighed}
 use Rattle.code_pieces.specs.declared.operations.TheConstants.{STOP_PROCESS}
-use Rattle.code_pieces.specs.declared.piece.RowEntry.{RowEntry}
-use Rattle.code_pieces.specs.declared.piece.WordFact.{WordFact}
-use Rattle.code_pieces.specs.declared.piece.WordFact.TheVariants.{Between, Turning}
-use Rattle.code_pieces.specs.Pieces.{Code, Direct, Distance, Jump, JumpUnless, LoopBack, Par, Piece, Place, Row, Select}
-use Rattle.code_pieces.specs.Pieces.{StartBranch, TableAddress, Within, closed_by, operates}
+use Rattle.code_pieces.specs.Pieces.{Code, Par, Piece, Row}
+use Rattle.code_pieces.specs.Pieces.{TableAddress, Within, closed_by, operates}
 use Rattle.code_pieces.specs.Laying.{apart, apart_from, words_taken}
 use Rattle.line_pieces.specs.Declarations.{Frame}
 use Rattle.code_generator.specs.Calls.{Callee, where_called}
@@ -21,13 +18,13 @@ use Rattle.meant_code.specs.Labels.{ArePlain, IsPlain}
 use Rattle.meant_code.proofs.AmongOthers.{apart_takes_no_more, parts_are_apart}
 use Rattle.meant_code.proofs.OwnPrograms.{labels_stay_once, programs_are_own}
 use Rattle.valid_code.specs.RowsInTurn.{IsRowInTurn}
-use Rattle.valid_code.specs.RangesSaid.{AreRangesSaid, IsRangeSaid, SaysRanges}
-use Rattle.valid_code.specs.ValidPieces.{AreSayable, EndInInstruction, IsSayable, IsValidPiece}
-use Rattle.valid_code.specs.ValidPrograms.{IsLoopSaid, ProgramsAreValid, SaysLoops, SequentialModulesAreValid}
+use Rattle.valid_code.specs.RowsSaid.{SaysWords}
+use Rattle.valid_code.specs.ValidPieces.{EndInInstruction, IsValidPiece}
+use Rattle.valid_code.specs.ValidPrograms.{ProgramsAreValid, SaysTables, SequentialModulesAreValid}
 use Rattle.valid_code.proofs.KeptApart.{apart_all}
 use Rattle.valid_code.proofs.ModulesValid.{modules_are_valid, rows_are_apart}
-use Rattle.valid_code.proofs.RangesSaid.{ranges_are_said}
 use Rattle.valid_code.proofs.RowsInTurn.{rows_are_in_turn}
+use Rattle.valid_code.proofs.RowsSaid.{rows_are_said}
 
 -- ---- the end of a program
 
@@ -76,53 +73,38 @@ ends items c is =
 
 -- ---- each piece
 
-sayable : (span : ℕ) (f : WordFact) → IsRangeSaid f → IsLoopSaid span f → IsSayable span f
-sayable span (Between lo hi) range loop = range
-sayable span (Turning head base count) range loop = loop
-
-all_sayable : (es : List RowEntry) → AreRangesSaid es → AllByRecursion (λ e. IsLoopSaid e.span e.fact) es
-    → AreSayable es
-all_sayable [] ranges loops = tt
-all_sayable (e ∷ es) ranges loops = (sayable e.span e.fact ranges.0 loops.0, all_sayable es ranges.1 loops.1)
-
-piece_valid : (words : ℕ) (p : Piece) → IsPlain p → IsRowInTurn words p → SaysRanges p → SaysLoops p
+piece_valid : (words labels : ℕ) (p : Piece) → IsPlain p → IsRowInTurn words p → SaysWords labels p → SaysTables p
     → IsValidPiece words p
-piece_valid words (Row l entries) plain turn ranges loops =
-    record { turn = turn; facts = all_sayable entries ranges loops }
-piece_valid words (TableAddress values) plain turn ranges loops = loops
-piece_valid words (Within workspace) plain turn ranges loops = absurd plain
-piece_valid words (Par par) plain turn ranges loops = absurd plain
-piece_valid words (Direct f e) plain turn ranges loops = tt
-piece_valid words (Jump l) plain turn ranges loops = tt
-piece_valid words (JumpUnless l) plain turn ranges loops = tt
-piece_valid words (LoopBack head behind) plain turn ranges loops = tt
-piece_valid words (Distance from to) plain turn ranges loops = absurd plain
-piece_valid words (StartBranch entry successor) plain turn ranges loops = absurd plain
-piece_valid words (Select targets) plain turn ranges loops = absurd plain
-piece_valid words (Place l) plain turn ranges loops = absurd plain
+piece_valid words labels (Row l entries) plain turn says tables = record { turn = turn; facts = says.0 }
+piece_valid words labels (TableAddress values) plain turn says tables = tables
+piece_valid words labels (Within workspace) plain turn says tables = absurd plain
+piece_valid words labels (Par par) plain turn says tables = absurd plain
+piece_valid words labels p plain turn says tables = tt
 
-pieces_valid : (words : ℕ) (ps : List Piece) → ArePlain ps → AllByRecursion (IsRowInTurn words) ps
-    → AllByRecursion SaysRanges ps → AllByRecursion SaysLoops ps → AllByRecursion (IsValidPiece words) ps
-pieces_valid words [] plain turn ranges loops = tt
-pieces_valid words (p ∷ ps) plain turn ranges loops =
-    (piece_valid words p plain.0 turn.0 ranges.0 loops.0, pieces_valid words ps plain.1 turn.1 ranges.1 loops.1)
+pieces_valid : (words labels : ℕ) (ps : List Piece) → ArePlain ps → AllByRecursion (IsRowInTurn words) ps
+    → AllByRecursion (SaysWords labels) ps → AllByRecursion SaysTables ps → AllByRecursion (IsValidPiece words) ps
+pieces_valid words labels [] plain turn says tables = tt
+pieces_valid words labels (p ∷ ps) plain turn says tables = (
+  piece_valid words labels p plain.0 turn.0 says.0 tables.0,
+  pieces_valid words labels ps plain.1 turn.1 says.1 tables.1,
+)
 
 pub programs_are_valid : ProgramsAreValid
-programs_are_valid items c seq words is loops few =
+programs_are_valid items c seq unbroken literals is tables few =
     let ps = c.pieces in
     record {
       each = subst (λ (words : ℕ). AllByRecursion (IsValidPiece words) (apart ps)) (sym (apart_takes_no_more ps))
           (apart_all (IsValidPiece (words_taken ps)) true ps tt
-          (pieces_valid (words_taken ps) ps (programs_are_own items c is).0.plain (rows_are_in_turn items c seq is few)
-          (ranges_are_said items c seq words is) loops));
+          (pieces_valid (words_taken ps) c.labels ps (programs_are_own items c is).0.plain
+          (rows_are_in_turn items c seq is few) (rows_are_said items c seq unbroken literals is) tables));
       once = labels_stay_once items c is;
       apart = rows_are_apart ps;
       ends = ends items c is;
     }
 
 pub sequential_modules_are_valid : SequentialModulesAreValid
-sequential_modules_are_valid items c seq words is loops links a eight arranged within =
+sequential_modules_are_valid items c seq unbroken literals is tables links a eight arranged within =
     let same = apart_takes_no_more c.pieces in
     let wide = within.contents.data_words in
     modules_are_valid (apart c.pieces) c.labels links a
-    (programs_are_valid items c seq words is loops (omega (arith, same, wide))) eight arranged within
+    (programs_are_valid items c seq unbroken literals is tables (omega (arith, same, wide))) eight arranged within

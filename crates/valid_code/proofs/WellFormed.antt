@@ -17,10 +17,13 @@ use Rattle.meant_code.proofs.AmongOthers.{parts_stay_parts}
 use Rattle.meant_code.proofs.LabelLists.{once_below}
 use Rattle.meant_code.proofs.OwnPrograms.{programs_are_own}
 use Rattle.valid_code.specs.RowsInTurn.{IsRowInTurn}
+use Rattle.valid_code.specs.RowsSaid.{SaysWords}
 use Rattle.valid_code.specs.ValidPieces.{InTurn}
 use Rattle.valid_code.specs.WellFormed.{AreBelow, HaveFewWords, HeadsAreBelow, ProgramsAreWellFormed, labels_named}
+use Rattle.valid_code.proofs.BelowLabels.{below_both, below_first, below_second}
 use Rattle.valid_code.proofs.KeptApart.{apart_all}
 use Rattle.valid_code.proofs.RowsInTurn.{rows_are_in_turn}
+use Rattle.valid_code.proofs.RowsSaid.{rows_are_said}
 
 -- ---- labels
 
@@ -36,18 +39,6 @@ among_below : (l n : ℕ) (ls : List ℕ) → AreBelow n ls → 1 ≤ times_in l
 among_below l n [] below there = absurd (omega (arith, there))
 among_below l n (m ∷ ls) below there =
     below_by (nat_eq l m) l m n ls refl there below.0 (among_below l n ls below.1)
-
-below_both : (n : ℕ) (ls ms : List ℕ) → AreBelow n ls → AreBelow n ms → AreBelow n (ls ++ ms)
-below_both n [] ms first second = second
-below_both n (l ∷ ls) ms first second = (first.0, below_both n ls ms first.1 second)
-
-below_first : (n : ℕ) (ls ms : List ℕ) → AreBelow n (ls ++ ms) → AreBelow n ls
-below_first n [] ms all = tt
-below_first n (l ∷ ls) ms all = (all.0, below_first n ls ms all.1)
-
-below_second : (n : ℕ) (ls ms : List ℕ) → AreBelow n (ls ++ ms) → AreBelow n ms
-below_second n [] ms all = all
-below_second n (l ∷ ls) ms all = below_second n ls ms all.1
 
 -- what a plain piece names is there, between these labels before it and these after it
 named_there : (n : ℕ) (before after : List ℕ) (p : Piece) → IsPlain p → AreBelow n before → AreBelow n after
@@ -100,9 +91,19 @@ rows_have_few words (p ∷ ps) few turn = (row_has_few words p few turn.0, rows_
 
 -- ---- the whole
 
+piece_heads : (labels : ℕ) (p : Piece) → SaysWords labels p → HeadsAreBelow labels p
+piece_heads labels (Row l entries) says = says.1
+piece_heads labels p says = tt
+
+all_heads : (labels : ℕ) (ps : List Piece) → AllByRecursion (SaysWords labels) ps
+    → AllByRecursion (HeadsAreBelow labels) ps
+all_heads labels [] says = tt
+all_heads labels (p ∷ ps) says = (piece_heads labels p says.0, all_heads labels ps says.1)
+
 pub programs_are_well_formed : ProgramsAreWellFormed
-programs_are_well_formed items c seq is fit heads few =
+programs_are_well_formed items c seq unbroken literals is fit few =
     let ps = c.pieces in
+    let heads = all_heads c.labels ps (rows_are_said items c seq unbroken literals is) in
     let own = (programs_are_own items c is).1 in
     record {
       placed = λ l less. (let once = own.once.inside l (omega arith) less in omega (arith, once));

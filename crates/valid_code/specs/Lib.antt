@@ -3,5 +3,5 @@ pub mod ValidModules
 pub mod RowsInTurn
 pub mod ValidPrograms
 pub mod Numbers
-pub mod RangesSaid
+pub mod RowsSaid
 pub mod WellFormed

@@ -1,10 +1,12 @@
 -- Pieces that are no invalid draft: the labels that they name are there, and operands and words of rows are in range.
-use Rattle.std.specs.Prelude.{◌≡◌, ◌≤◌, ◌<◌, ⊤, ℕ, ◌+◌, List, [], ◌∷◌, Some}
+use Rattle.std.specs.Prelude.{◌≡◌, ◌≤◌, ◌<◌, ⊤, ℕ, ◌+◌, List, [], ◌∷◌, Some, true}
 use Rattle.std.specs.List.{AllByRecursion, flat_map}
 use Rattle.std.specs.Option.{option_to_list}
 use Rattle.module_format.specs.declared.limits.TheConstants.{MAX_DATA_WORDS}
 use Rattle.occam_parser.specs.Blocks.{ProgramItem}
+use Rattle.occam_parser.specs.Words.{items_have_words}
 use Rattle.program_meaning.specs.Sequential.{IsSequentialProgram}
+use Rattle.usage_checks.specs.ItemRules.{BreaksNoRule}
 use Rattle.code_pieces.specs.declared.piece.RowEntry.{RowEntry}
 use Rattle.code_pieces.specs.declared.piece.WordFact.{WordFact}
 use Rattle.code_pieces.specs.declared.piece.WordFact.TheVariants.{Between, Turning}
@@ -63,9 +65,9 @@ abbrev pub HeadsAreBelow : ℕ → Piece → Type 0
 HeadsAreBelow labels (Row l entries) = AreBelow labels (heads_said entries)
 HeadsAreBelow labels p = ⊤
 
--- So are the pieces of a sequential program once its rows are kept apart, if its constants are words and the loops that
--- rows say have their heads in it.
+-- So are the pieces of a sequential program that breaks no rule once its rows are kept apart, if its literals are words
+-- and bytes, and the constants of its code are words.
 abbrev pub ProgramsAreWellFormed : Type 0
-ProgramsAreWellFormed = (items : List ProgramItem) (c : Code) → IsSequentialProgram items → code_of items ≡ Some c
-    → AllByRecursion OperandFits c.pieces → AllByRecursion (HeadsAreBelow c.labels) c.pieces
+ProgramsAreWellFormed = (items : List ProgramItem) (c : Code) → IsSequentialProgram items → BreaksNoRule items
+    → items_have_words items ≡ true → code_of items ≡ Some c → AllByRecursion OperandFits c.pieces
     → words_taken c.pieces ≤ MAX_DATA_WORDS → AreWellFormed (apart c.pieces) c.labels

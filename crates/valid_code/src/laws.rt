@@ -1,8 +1,8 @@
 //! The laws of valid modules, each the contract of a function that does nothing.
 
 ghost use Rattle.valid_code.specs.Numbers.{BoundsHaveNumbers, MovesKeepNumbers};
-ghost use Rattle.valid_code.specs.RangesSaid.{RangesAreSaid};
 ghost use Rattle.valid_code.specs.RowsInTurn.{RowsAreInTurn};
+ghost use Rattle.valid_code.specs.RowsSaid.{RowsAreSaid};
 ghost use Rattle.valid_code.specs.ValidModules.{RowsAreApart, ModulesAreValid, PiecesAreSaid};
 ghost use Rattle.valid_code.specs.WellFormed.{ProgramsAreWellFormed};
 ghost use Rattle.valid_code.specs.ValidPrograms.{ProgramsAreValid, SequentialModulesAreValid};
@@ -15,22 +15,22 @@ pub fn modules_are_valid()
     ensures said { PiecesAreSaid }
 {}
 
-/// In the code of a sequential program each row is of words in turn, all of which the code takes, and each range that it
-/// says is one of words.
+/// In the code of a sequential program each row is of words in turn, all of which the code takes. If the program breaks no
+/// rule, a file can say what they say.
 pub fn rows_say_words()
     ensures turn { RowsAreInTurn }
-    ensures ranges { RangesAreSaid }
+    ensures said { RowsAreSaid }
 {}
 
-/// The pieces of a sequential program are valid, and so its module keeps the rules of the format, if a file can say their
-/// loops and tables.
+/// The pieces of a sequential program that breaks no rule are valid, and so its module keeps the rules of the format, if
+/// the values of its tables are words.
 pub fn programs_are_valid()
     ensures pieces { ProgramsAreValid }
     ensures modules { SequentialModulesAreValid }
 {}
 
-/// Each label that a sequential program names is placed in it, its operands are words and its rows are of words that a
-/// frame may have, if its constants are words and the heads of its loops are there.
+/// Each label that such a program names is placed in it, its operands are words and its rows are of words that a frame
+/// may have, if its constants are words.
 pub fn programs_are_well_formed()
     ensures { ProgramsAreWellFormed }
 {}
