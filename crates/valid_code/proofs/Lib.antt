@@ -16,3 +16,4 @@ pub mod BelowLabels
 pub mod RowsSaid
 pub mod KeptApart
 pub mod WellFormed
+pub mod ValidDrafts

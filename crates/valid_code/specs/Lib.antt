@@ -5,3 +5,4 @@ pub mod ValidPrograms
 pub mod Numbers
 pub mod RowsSaid
 pub mod WellFormed
+pub mod ValidDrafts

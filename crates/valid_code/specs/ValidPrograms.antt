@@ -30,6 +30,7 @@ ProgramsAreValid = (items : List ProgramItem) (c : Code) → IsSequentialProgram
 -- So its module for eight links keeps the rules of the format, if no number is above a limit.
 abbrev pub SequentialModulesAreValid : Type 0
 SequentialModulesAreValid = (items : List ProgramItem) (c : Code) → IsSequentialProgram items → BreaksNoRule items
-    → items_have_words items ≡ true → code_of items ≡ Some c → AllByRecursion SaysTables c.pieces → (links : List ℕ) (a : Arrangement) → length links ≡ 8
+    → items_have_words items ≡ true → code_of items ≡ Some c → AllByRecursion SaysTables c.pieces
+    → (links : List ℕ) (a : Arrangement) → length links ≡ 8
     → IsArrangement (apart c.pieces) c.labels a → AreWithin (apart c.pieces) c.labels links a
     → Keeps (laid_module (apart c.pieces) c.labels links a)

@@ -3,6 +3,7 @@
 ghost use Rattle.valid_code.specs.Numbers.{BoundsHaveNumbers, MovesKeepNumbers};
 ghost use Rattle.valid_code.specs.RowsInTurn.{RowsAreInTurn};
 ghost use Rattle.valid_code.specs.RowsSaid.{RowsAreSaid};
+ghost use Rattle.valid_code.specs.ValidDrafts.{DraftsAreValid, SequentialDraftsAreValid};
 ghost use Rattle.valid_code.specs.ValidModules.{RowsAreApart, ModulesAreValid, PiecesAreSaid};
 ghost use Rattle.valid_code.specs.WellFormed.{ProgramsAreWellFormed};
 ghost use Rattle.valid_code.specs.ValidPrograms.{ProgramsAreValid, SequentialModulesAreValid};
@@ -15,18 +16,24 @@ pub fn modules_are_valid()
     ensures said { PiecesAreSaid }
 {}
 
-/// In the code of a sequential program each row is of words in turn, all of which the code takes. If the program breaks no
-/// rule, a file can say what they say.
+/// In the code of a sequential program each row is of words in turn, all of which the code takes. If the program breaks
+/// no rule, a file can say what they say.
 pub fn rows_say_words()
     ensures turn { RowsAreInTurn }
     ensures said { RowsAreSaid }
 {}
 
-/// The pieces of a sequential program that breaks no rule are valid, and so its module keeps the rules of the format, if
-/// the values of its tables are words.
+/// The pieces of a sequential program that breaks no rule are valid, and so its module keeps the rules of the format,
+/// if the values of its tables are words.
 pub fn programs_are_valid()
     ensures pieces { ProgramsAreValid }
     ensures modules { SequentialModulesAreValid }
+{}
+
+/// The draft that valid pieces are laid out as is not invalid, and so neither is that of such a program.
+pub fn drafts_are_valid()
+    ensures pieces { DraftsAreValid }
+    ensures programs { SequentialDraftsAreValid }
 {}
 
 /// Each label that such a program names is placed in it, its operands are words and its rows are of words that a frame
