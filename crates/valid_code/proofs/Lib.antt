@@ -17,3 +17,4 @@ pub mod RowsSaid
 pub mod KeptApart
 pub mod WellFormed
 pub mod ValidDrafts
+pub mod WholeDrafts

@@ -83,7 +83,7 @@ no_rows : {X : Type 0} (order : List (ℕ × ℕ)) (rows : List X) → rows ≡ 
 no_rows [] rows e = refl
 no_rows (pair ∷ order) rows e = (λ j. cons_option (slice_get (e j) pair.1) (rows_in order rows)) ∙ no_rows order rows e
 
-all_before : {X Y : Type 0} (P : Y → Type 0) (f : X → Y) (xs : List X) → AllByRecursion P (map f xs)
+pub all_before : {X Y : Type 0} (P : Y → Type 0) (f : X → Y) (xs : List X) → AllByRecursion P (map f xs)
     → AllByRecursion (λ x. P (f x)) xs
 all_before P f [] all = tt
 all_before P f (x ∷ xs) all = (all.0, all_before P f xs all.1)
@@ -124,6 +124,13 @@ file_row number offsets row =
 
 -- ---- the draft
 
+-- that of pieces without PARs has none
+pub none_drafted : (ps : List Piece) (labels : ℕ) (links : List ℕ) (d : Draft) (lengths : List ℕ)
+    → IsLaid ps labels links lengths d → pars_of ps ≡ [] → d.pars.items ≡ []
+none_drafted ps labels links d lengths laid none =
+    none_mapped (λ (row : ParRow Label ContextName). placed_par [] 0 row) d.pars.items
+    (laid.draft.pars (λ name. 0) [] ∙ ap (λ (rows : List pars.Par). map (laid_par (λ context. 0) []) rows) none)
+
 module _ (ps : List Piece) (labels : ℕ) (links : List ℕ) (d : Draft) (a : assembled.Arrangement)
     (valid : AreValid ps labels) (eight : length links ≡ 8) (laid : IsLaid ps labels links a.lengths d)
     (is : IsArranged d a) (within : IsWithinLimits d a.lengths)
@@ -143,11 +150,8 @@ module _ (ps : List Piece) (labels : ℕ) (links : List ℕ) (d : Draft) (a : as
   in_the_root : AreInRoot said
   in_the_root = in_one_workspace (words_taken ps) (needs_in ps a.lengths) ps valid.each
 
-  none_drafted : d.pars.items ≡ []
-  none_drafted =
-      none_mapped (λ (row : ParRow Label ContextName). placed_par [] 0 row) d.pars.items
-      (laid.draft.pars (λ name. 0) []
-      ∙ ap (λ (rows : List pars.Par). map (laid_par (λ context. 0) []) rows) none)
+  no_drafted : d.pars.items ≡ []
+  no_drafted = none_drafted ps labels links d a.lengths laid none
 
   -- ---- in order
 
@@ -185,7 +189,7 @@ module _ (ps : List Piece) (labels : ℕ) (links : List ℕ) (d : Draft) (a : as
         (subst (AllByRecursion (λ (row : ShownRow). row.context ≡ Root)) (sym laid.rows)
         (contexts_of all said in_the_root)));
     pars = subst (AllByRecursion (λ (row : ParRow Label ContextName). IsThere d a.procedures a.pars row.context))
-        (sym none_drafted) tt;
+        (sym no_drafted) tt;
   }
     where
       each_there : (rows : List (LabelRow Label ContextName))
@@ -229,7 +233,7 @@ module _ (ps : List Piece) (labels : ℕ) (links : List ℕ) (d : Draft) (a : as
   pars_said offsets =
       let placed = λ (row : ParRow Label ContextName). placed_par offsets (number_in d a row.context) row in
       let of_par = laid_par (context_number all a.pars) offsets in
-      ap (map placed) (no_rows a.pars d.pars.items none_drafted)
+      ap (map placed) (no_rows a.pars d.pars.items no_drafted)
       ∙ sym (ap (map of_par) (no_rows a.pars all none))
 
   says_all : tables_of d a ≡ laid_module ps labels links own

@@ -1,16 +1,21 @@
 -- The pieces of sequential programs are well formed: labels that are named are there, and words are few.
 use Rattle.std.proofs.Common.{◌≡◌, ℕ, ◌+◌, ◌<◌, ◌≤◌, Bool, true, false, cond, List, [], ◌∷◌, ◌++◌, refl}
-use Rattle.std.proofs.Common.{sym, arith, append-nil}
+use Rattle.std.proofs.Common.{sym, arith, append-nil, Some}
 use Rattle.std.specs.Prelude.{nat_eq}
 use Rattle.std.specs.List.{AllByRecursion}
 use Rattle.std.specs.Option.{option_to_list}
 use Rattle.std.proofs.lemmas.Bool.{eqb-true}
 use Rattle.module_format.specs.declared.limits.TheConstants.{MAX_DATA_WORDS}
+use Rattle.occam_parser.specs.Blocks.{ProgramItem}
+use Rattle.occam_parser.specs.Words.{items_have_words}
+use Rattle.program_meaning.specs.Sequential.{IsSequentialProgram}
+use Rattle.usage_checks.specs.ItemRules.{BreaksNoRule}
 use Rattle.code_pieces.specs.declared.piece.RowEntry.{RowEntry}
-use Rattle.code_pieces.specs.Pieces.{Direct, Jump, JumpUnless, LoopBack, Piece, Row}
+use Rattle.code_pieces.specs.Pieces.{Code, Direct, Jump, JumpUnless, LoopBack, Piece, Row}
 use Rattle.code_pieces.specs.Pieces.{TableAddress}
 use Rattle.code_pieces.specs.Placing.{label_in}
 use Rattle.code_pieces.specs.Laying.{apart, words_taken}
+use Rattle.code_generator.specs.Programs.{code_of}
 use Rattle.placed_code.specs.LaidCode.{labels_in}
 use Rattle.meant_code.specs.Labels.{AllLead, ArePlain, IsPlain, Leads, times_in}
 use Rattle.meant_code.proofs.AmongOthers.{parts_stay_parts}
@@ -20,6 +25,7 @@ use Rattle.valid_code.specs.RowsInTurn.{IsRowInTurn}
 use Rattle.valid_code.specs.RowsSaid.{SaysWords}
 use Rattle.valid_code.specs.ValidPieces.{InTurn}
 use Rattle.valid_code.specs.WellFormed.{AreBelow, HaveFewWords, HeadsAreBelow, ProgramsAreWellFormed, labels_named}
+use Rattle.valid_code.specs.WholeDrafts.{AreNamed}
 use Rattle.valid_code.proofs.BelowLabels.{below_both, below_first, below_second}
 use Rattle.valid_code.proofs.KeptApart.{apart_all}
 use Rattle.valid_code.proofs.RowsInTurn.{rows_are_in_turn}
@@ -100,15 +106,23 @@ all_heads : (labels : ℕ) (ps : List Piece) → AllByRecursion (SaysWords label
 all_heads labels [] says = tt
 all_heads labels (p ∷ ps) says = (piece_heads labels p says.0, all_heads labels ps says.1)
 
-pub programs_are_well_formed : ProgramsAreWellFormed
-programs_are_well_formed items c seq unbroken literals is fit few =
+-- the labels that such a program names are there
+pub names_are_there : (items : List ProgramItem) (c : Code) → IsSequentialProgram items → BreaksNoRule items
+    → items_have_words items ≡ true → code_of items ≡ Some c → AreNamed c.labels (apart c.pieces)
+names_are_there items c seq unbroken literals is =
     let ps = c.pieces in
     let heads = all_heads c.labels ps (rows_are_said items c seq unbroken literals is) in
     let own = (programs_are_own items c is).1 in
+    all_named c.labels [] (apart ps) own.plain tt (once_below 0 c.labels (labels_in (apart ps)) own.once)
+    (apart_all (HeadsAreBelow c.labels) true ps tt heads) own.lead
+
+pub programs_are_well_formed : ProgramsAreWellFormed
+programs_are_well_formed items c seq unbroken literals is fit few =
+    let ps = c.pieces in
+    let own = (programs_are_own items c is).1 in
     record {
       placed = λ l less. (let once = own.once.inside l (omega arith) less in omega (arith, once));
-      named = all_named c.labels [] (apart ps) own.plain tt (once_below 0 c.labels (labels_in (apart ps)) own.once)
-          (apart_all (HeadsAreBelow c.labels) true ps tt heads) own.lead;
+      named = names_are_there items c seq unbroken literals is;
       operands = (parts_stay_parts items c is [] ps [] (sym (append-nil ps)) fit).stays;
       words = apart_all HaveFewWords true ps tt
           (rows_have_few (words_taken ps) ps few (rows_are_in_turn items c seq is few));

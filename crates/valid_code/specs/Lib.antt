@@ -6,3 +6,4 @@ pub mod Numbers
 pub mod RowsSaid
 pub mod WellFormed
 pub mod ValidDrafts
+pub mod WholeDrafts

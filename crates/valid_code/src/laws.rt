@@ -5,6 +5,7 @@ ghost use Rattle.valid_code.specs.RowsInTurn.{RowsAreInTurn};
 ghost use Rattle.valid_code.specs.RowsSaid.{RowsAreSaid};
 ghost use Rattle.valid_code.specs.ValidDrafts.{DraftsAreValid, SequentialDraftsAreValid};
 ghost use Rattle.valid_code.specs.ValidModules.{RowsAreApart, ModulesAreValid, PiecesAreSaid};
+ghost use Rattle.valid_code.specs.WholeDrafts.{CodeIsComplete, DraftsAreWhole, SequentialDraftsAreWhole};
 ghost use Rattle.valid_code.specs.WellFormed.{ProgramsAreWellFormed};
 ghost use Rattle.valid_code.specs.ValidPrograms.{ProgramsAreValid, SequentialModulesAreValid};
 
@@ -34,6 +35,14 @@ pub fn programs_are_valid()
 pub fn drafts_are_valid()
     ensures pieces { DraftsAreValid }
     ensures programs { SequentialDraftsAreValid }
+{}
+
+/// What pieces are laid out as refers to no label that is placed nowhere, if there are no PARs among them and they name
+/// no label but their own, and so does what such a program is laid out as.
+pub fn drafts_are_whole()
+    ensures code { CodeIsComplete }
+    ensures pieces { DraftsAreWhole }
+    ensures programs { SequentialDraftsAreWhole }
 {}
 
 /// Each label that such a program names is placed in it, its operands are words and its rows are of words that a frame
