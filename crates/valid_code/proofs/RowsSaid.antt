@@ -670,6 +670,14 @@ module _ (items : List ProgramItem) (unbroken : BreaksNoRule items) (labels : �
   turn_is true n count less = less
   turn_is false n count less = absurd (omega (arith, less))
 
+  -- where a turn begins, indices are within what they are before them all
+  begun_within : (ns : List ℕ) (i l : Known) (es : List Entry) → Turned ns i l → i.entries ≡ es
+      → IndicesWithin l.entries es
+  begun_within ns i l es begun same =
+      subst (λ (x : Known). IndicesWithin x.entries es) (sym begun.is)
+      (subst (λ (xs : List Entry). IndicesWithin begun.start xs) same
+      (indices_within ns begun.start i.entries begun.starts))
+
   turned_good : {part : Part} (w : Surroundings) (line : ℕ) (r : Replicator) (changed : List ℕ) (c : Component part)
       (s : Site) → IsMadeOf (Mark mark.If) part → IsGood w c → KeepsIn w.around c
       → TurnsCome w line r changed (Mark mark.If) c s.known → replicator_has_words r ≡ true → IsSite s.frame s.known
@@ -694,10 +702,7 @@ module _ (items : List ProgramItem) (unbroken : BreaksNoRule items) (labels : �
       (component_stays a ns (Mark mark.If) c made es (covers_itself ns)) in
       let same = unless_same repeats.happens k in
       let within : (n : ℕ) → IndicesWithin (turns n j).entries k.entries =
-      λ n.
-      subst (λ (x : Known). IndicesWithin x.entries k.entries) (sym (all_turned n j same).is)
-      (subst (λ (xs : List Entry). IndicesWithin (all_turned n j same).start xs) same
-      (indices_within ns (all_turned n j same).start j.entries (all_turned n j same).starts)) in
+      λ n. begun_within ns j (turns n j) k.entries (all_turned n j same) same in
       let choice : ℕ → PlacedChoice =
       λ n. placed w c (turn_begun a (Mark mark.If) r.name c repeats (begin j) n) in
       let after = after_at w line r changed (Mark mark.If) c k in
