@@ -11,7 +11,7 @@ use Rattle.occam_parser.specs.Words.{items_have_words}
 use Rattle.program_meaning.specs.Sequential.{IsSequentialProgram}
 use Rattle.usage_checks.specs.ItemRules.{BreaksNoRule}
 use Rattle.code_pieces.specs.declared.piece.RowEntry.{RowEntry}
-use Rattle.code_pieces.specs.Pieces.{Code, Direct, Jump, JumpUnless, LoopBack, Piece, Row}
+use Rattle.code_pieces.specs.Pieces.{Code, Direct, Jump, JumpUnless, LoopBack, Par, Piece, Row, Within}
 use Rattle.code_pieces.specs.Pieces.{TableAddress}
 use Rattle.code_pieces.specs.Placing.{label_in}
 use Rattle.code_pieces.specs.Laying.{apart, words_taken}
@@ -24,7 +24,8 @@ use Rattle.meant_code.proofs.OwnPrograms.{programs_are_own}
 use Rattle.valid_code.specs.RowsInTurn.{IsRowInTurn}
 use Rattle.valid_code.specs.RowsSaid.{SaysWords}
 use Rattle.valid_code.specs.ValidPieces.{InTurn}
-use Rattle.valid_code.specs.WellFormed.{AreBelow, HaveFewWords, HeadsAreBelow, ProgramsAreWellFormed, labels_named}
+use Rattle.valid_code.specs.WellFormed.{AreBelow, HaveFewWords, HeadsAreBelow, IsOfOneProcess, OperandsAreWords}
+use Rattle.valid_code.specs.WellFormed.{ProgramsAreWellFormed, labels_named}
 use Rattle.valid_code.specs.WholeDrafts.{AreNamed}
 use Rattle.valid_code.proofs.BelowLabels.{below_both, below_first, below_second}
 use Rattle.valid_code.proofs.KeptApart.{apart_all}
@@ -116,14 +117,27 @@ names_are_there items c seq unbroken literals is =
     all_named c.labels [] (apart ps) own.plain tt (once_below 0 c.labels (labels_in (apart ps)) own.once)
     (apart_all (HeadsAreBelow c.labels) true ps tt heads) own.lead
 
+of_one : (p : Piece) → IsPlain p → IsOfOneProcess p
+of_one (Within workspace) plain = plain
+of_one (Par par) plain = plain
+of_one p plain = tt
+
+all_of_one : (ps : List Piece) → ArePlain ps → AllByRecursion IsOfOneProcess ps
+all_of_one [] plain = tt
+all_of_one (p ∷ ps) plain = (of_one p plain.0, all_of_one ps plain.1)
+
 pub programs_are_well_formed : ProgramsAreWellFormed
-programs_are_well_formed items c seq unbroken literals is fit few =
+programs_are_well_formed items c seq unbroken literals is few =
     let ps = c.pieces in
     let own = (programs_are_own items c is).1 in
     record {
       placed = λ l less. (let once = own.once.inside l (omega arith) less in omega (arith, once));
       named = names_are_there items c seq unbroken literals is;
-      operands = (parts_stay_parts items c is [] ps [] (sym (append-nil ps)) fit).stays;
+      alone = all_of_one (apart ps) own.plain;
       words = apart_all HaveFewWords true ps tt
           (rows_have_few (words_taken ps) ps few (rows_are_in_turn items c seq is few));
     }
+
+pub operands_are_words : OperandsAreWords
+operands_are_words items c is fit =
+    (parts_stay_parts items c is [] c.pieces [] (sym (append-nil c.pieces)) fit).stays

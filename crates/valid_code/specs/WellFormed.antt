@@ -10,7 +10,7 @@ use Rattle.usage_checks.specs.ItemRules.{BreaksNoRule}
 use Rattle.code_pieces.specs.declared.piece.RowEntry.{RowEntry}
 use Rattle.code_pieces.specs.declared.piece.WordFact.{WordFact}
 use Rattle.code_pieces.specs.declared.piece.WordFact.TheVariants.{Between, Turning}
-use Rattle.code_pieces.specs.Pieces.{Piece, Jump, JumpUnless, LoopBack, Distance, StartBranch, Select, Row, Place}
+use Rattle.code_pieces.specs.Pieces.{Piece, Jump, JumpUnless, LoopBack, Distance, StartBranch, Select, Row, Place, Within, Par}
 use Rattle.code_pieces.specs.Pieces.{Code}
 use Rattle.code_pieces.specs.Laying.{apart, words_taken}
 use Rattle.code_generator.specs.Programs.{code_of}
@@ -52,12 +52,18 @@ HaveFewWords p = ⊤
 
 -- ---- the whole
 
--- Each label is placed, those that are named are there, operands are words at the workspace of the root, and rows are of
--- words that a frame may have.
+-- there is no PAR, and no workspace but that of the root
+abbrev pub IsOfOneProcess : Piece → Type 0
+IsOfOneProcess (Within workspace) = ⊥
+IsOfOneProcess (Par par) = ⊥
+IsOfOneProcess p = ⊤
+
+-- Each label is placed, those that are named are there, and rows are of words that a frame may have. Operands are words
+-- if their pieces have them so, since none is counted from another workspace.
 pub record AreWellFormed (ps : List Piece) (labels : ℕ) : Type 0 where
   pub placed : (l : ℕ) → l < labels → 1 ≤ times_in l (labels_in ps)
   pub named : AllByRecursion (λ p. AreBelow labels (labels_named p)) ps
-  pub operands : AllByRecursion (StaysAt 0) ps
+  pub alone : AllByRecursion IsOfOneProcess ps
   pub words : AllByRecursion HaveFewWords ps
 
 -- the heads of the loops that a row says are there
@@ -66,8 +72,13 @@ HeadsAreBelow labels (Row l entries) = AreBelow labels (heads_said entries)
 HeadsAreBelow labels p = ⊤
 
 -- So are the pieces of a sequential program that breaks no rule once its rows are kept apart, if its literals are words
--- and bytes, and the constants of its code are words.
+-- and bytes, and if it takes no more words than a file has.
 abbrev pub ProgramsAreWellFormed : Type 0
 ProgramsAreWellFormed = (items : List ProgramItem) (c : Code) → IsSequentialProgram items → BreaksNoRule items
-    → items_have_words items ≡ true → code_of items ≡ Some c → AllByRecursion OperandFits c.pieces
-    → words_taken c.pieces ≤ MAX_DATA_WORDS → AreWellFormed (apart c.pieces) c.labels
+    → items_have_words items ≡ true → code_of items ≡ Some c → words_taken c.pieces ≤ MAX_DATA_WORDS
+    → AreWellFormed (apart c.pieces) c.labels
+
+-- Their operands are words, if the constants of its code are.
+abbrev pub OperandsAreWords : Type 0
+OperandsAreWords = (items : List ProgramItem) (c : Code) → code_of items ≡ Some c
+    → AllByRecursion OperandFits c.pieces → AllByRecursion (StaysAt 0) (apart c.pieces)

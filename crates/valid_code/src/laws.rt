@@ -6,7 +6,7 @@ ghost use Rattle.valid_code.specs.RowsSaid.{RowsAreSaid};
 ghost use Rattle.valid_code.specs.ValidDrafts.{DraftsAreValid, SequentialDraftsAreValid};
 ghost use Rattle.valid_code.specs.ValidModules.{RowsAreApart, ModulesAreValid, PiecesAreSaid};
 ghost use Rattle.valid_code.specs.WholeDrafts.{CodeIsComplete, DraftsAreWhole, SequentialDraftsAreWhole};
-ghost use Rattle.valid_code.specs.WellFormed.{ProgramsAreWellFormed};
+ghost use Rattle.valid_code.specs.WellFormed.{ProgramsAreWellFormed, OperandsAreWords};
 ghost use Rattle.valid_code.specs.ValidPrograms.{ProgramsAreValid, SequentialModulesAreValid};
 
 /// A module of valid pieces keeps the rules of the format, if no number of it is above a limit, and so has a file. In
@@ -45,10 +45,11 @@ pub fn drafts_are_whole()
     ensures programs { SequentialDraftsAreWhole }
 {}
 
-/// Each label that such a program names is placed in it, its operands are words and its rows are of words that a frame
-/// may have, if its constants are words.
+/// Each label that such a program names is placed in it, there is no workspace but that of the root, and its rows are of
+/// words that a frame may have. Its operands are words, if its constants are.
 pub fn programs_are_well_formed()
-    ensures { ProgramsAreWellFormed }
+    ensures whole { ProgramsAreWellFormed }
+    ensures operands { OperandsAreWords }
 {}
 
 /// Where the range of each name has numbers, so has that of an expression, and each move of the walk over a sequential
