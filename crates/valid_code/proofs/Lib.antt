@@ -18,3 +18,4 @@ pub mod KeptApart
 pub mod WellFormed
 pub mod ValidDrafts
 pub mod WholeDrafts
+pub mod Refused

@@ -7,3 +7,4 @@ pub mod RowsSaid
 pub mod WellFormed
 pub mod ValidDrafts
 pub mod WholeDrafts
+pub mod Refused
