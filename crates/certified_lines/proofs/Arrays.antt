@@ -58,10 +58,10 @@ high_word v fits = omega (arith, ints)
 -- ---- words together
 
 -- what is known of words that are such numbers
-abbrev numbers : Ends → Together
+abbrev pub numbers : Ends → Together
 numbers r = record { lo = r.lo; hi = r.hi; are_numbers = true; are_alone = true }
 
-all_numbers : (r : Ends) (facts : Facts) (first count : ℕ) → IsRange r → AreNumbersIn r facts first count
+pub all_numbers : (r : Ends) (facts : Facts) (first count : ℕ) → IsRange r → AreNumbersIn r facts first count
     → together facts (pos first) (suc count) ≡ numbers r
 all_numbers r facts first zero is each =
     ap (λ (f : WordFact). with_one f of_none) (each 0 (omega arith))

@@ -5,3 +5,15 @@ pub mod Moving
 pub mod Numbers
 pub mod Walking
 pub mod Arrays
+pub mod Telling
+pub mod Ranges
+pub mod Named
+pub mod Operands
+pub mod Arithmetic
+pub mod Comparing
+pub mod Chains
+pub mod Bounded
+pub mod Fronts
+pub mod Elements
+pub mod Expressions
+pub mod Induction

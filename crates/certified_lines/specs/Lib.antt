@@ -5,3 +5,10 @@ pub mod Moving
 pub mod Numbers
 pub mod Walking
 pub mod Arrays
+pub mod Scopes
+pub mod Telling
+pub mod TellingLaws
+pub mod OperandLaws
+pub mod ChainTells
+pub mod ElementLaws
+pub mod ExpressionLaws

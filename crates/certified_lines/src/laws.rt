@@ -18,6 +18,13 @@ ghost use Rattle.certified_lines.specs.Numbers.{NothingIsToldFromNowhere};
 ghost use Rattle.certified_lines.specs.Walking.{WalksReach, StraightPiecesWalk};
 ghost use Rattle.certified_lines.specs.Arrays.{AnyOfNumbersIsOne, FullWordsStayFull, OtherWordsStay};
 ghost use Rattle.certified_lines.specs.Arrays.{ElementsAreNumbers, SpansAreOfWords};
+ghost use Rattle.certified_lines.specs.TellingLaws.{ScopesStay, ConstantsTell, ScalarsTell};
+ghost use Rattle.certified_lines.specs.ElementLaws.{KnownWordsTell, WordsTell, KnownBytesTell, BytesTell};
+ghost use Rattle.certified_lines.specs.ElementLaws.{KnownItemsTell, ItemsTell};
+ghost use Rattle.certified_lines.specs.OperandLaws.{BothTell, OperationsTell, ArithmeticTells, ComparisonsTell};
+ghost use Rattle.certified_lines.specs.OperandLaws.{PrefixesTell, FirstTwoTell, OneMoreTells};
+ghost use Rattle.certified_lines.specs.ChainTells.{TermsTell};
+ghost use Rattle.certified_lines.specs.ExpressionLaws.{ExpressionsTell};
 
 /// What is known after straight pieces, and after others from there, is what is known after both.
 #[tactic(auto, using(crate::proofs::StraightRules::straight_rules_follow))]
@@ -109,4 +116,47 @@ pub fn words_stay_known()
     ensures others { OtherWordsStay }
     ensures elements { ElementsAreNumbers }
     ensures spans { SpansAreOfWords }
+{}
+
+/// What a scope says of words stays known while the words before the first free one stay. A constant and a scalar that
+/// are pushed have exactly the range that the scope says.
+pub fn leaves_are_told()
+    ensures stays { ScopesStay }
+    ensures constants { ConstantsTell }
+    ensures scalars { ScalarsTell }
+{}
+
+/// An element of an array that is pushed is any number of its type, and one of a table any that its row says.
+pub fn elements_are_told()
+    ensures known_words { KnownWordsTell }
+    ensures words { WordsTell }
+    ensures known_bytes { KnownBytesTell }
+    ensures bytes { BytesTell }
+    ensures known_items { KnownItemsTell }
+    ensures items { ItemsTell }
+{}
+
+/// Two operands are pushed in order, or in any. What an operator makes of two numbers has exactly the range that it has of
+/// theirs; what a comparison makes of them is 0 or 1.
+pub fn operands_are_told()
+    ensures both { BothTell }
+    ensures operations { OperationsTell }
+    ensures arithmetic { ArithmeticTells }
+    ensures comparisons { ComparisonsTell }
+    ensures prefixes { PrefixesTell }
+{}
+
+/// What a chain makes of its operands has the range that its operator has of theirs, from the left. Where its front is a
+/// constant, that is pushed.
+pub fn chains_are_told()
+    ensures first { FirstTwoTell }
+    ensures more { OneMoreTells }
+    ensures whole { TermsTell }
+{}
+
+/// The code of a well typed expression breaks no rule. Where exactly that is known of the words of a scope which the scope
+/// says, it leaves in A a number of which exactly the bound is known that the compiler has for it; of a condition, that it
+/// is 0, 1 or either.
+pub fn expressions_are_told()
+    ensures expressions { ExpressionsTell }
 {}

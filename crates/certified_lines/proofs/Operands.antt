@@ -1,0 +1,343 @@
+-- What the code of two operands leaves known, and that of an operation of both.
+use Rattle.std.proofs.Common.{◌≡◌, ℕ, ◌+◌, ◌<◌, ◌≤◌, inl, inr, ℤ, pos, ◌+ℤ◌, ◌-ℤ◌, Bool, true, false, ◌&&◌, ◌||◌, cond}
+use Rattle.std.proofs.Common.{List, [], ◌∷◌, ◌++◌, Option, Some, refl, sym, ap, subst, ◌∙◌, arith}
+use Rattle.std.specs.Prelude.{int_le}
+use Rattle.std.proofs.lemmas.Int.{ints}
+use Rattle.word_arithmetic.specs.Range.{Ends, IsRange}
+use Rattle.word_arithmetic.specs.Binary.{result_range}
+use Rattle.word_arithmetic.specs.declared.binary.Binary.{Binary}
+use Rattle.module_format.specs.Rows.{Fact}
+use Rattle.module_format.specs.declared.limits.TheConstants.{MAX_DATA_WORDS}
+use Rattle.module_format.specs.declared.stack.Stack.{Stack}
+use Rattle.module_format.specs.Stack.{reversed}
+use Rattle.machine_state.specs.declared.op.Op.TheVariants as ops
+use Rattle.machine_state.specs.Instructions.{op_of}
+use Rattle.states.specs.declared.known.Known.{Known}
+use Rattle.states.specs.declared.known.WordFact.{WordFact}
+use Rattle.states.specs.declared.known.WordFact.TheVariants.{Alone, Index, Count}
+use Rattle.states.specs.State.{Facts, is_same_number, is_at, is_parted, by_itself, with_fact}
+use Rattle.local_rules.specs.WordRules.{number_in, result_source, word_as_known}
+use Rattle.scalar_ranges.specs.Entries.{Entry}
+use Rattle.code_pieces.specs.Pieces.{Piece, operates, stores, counted, word_after}
+use Rattle.line_pieces.specs.Expressions.{both, comes_last, back, exchanged}
+use Rattle.certified_lines.specs.StraightRules.{Setting, Told, FallOn, done, with_pushed}
+use Rattle.certified_lines.specs.Instructions.{IsCounted, MayRead, MayWrite, is_told, with_word, without_a, with_a}
+use Rattle.certified_lines.specs.Instructions.{with_result}
+use Rattle.certified_lines.specs.Numbers.{IsNumberIn}
+use Rattle.certified_lines.specs.Scopes.{Scene, HoldsScope, IsScope, IsNumber}
+use Rattle.certified_lines.specs.Telling.{IsWhole, StayBefore, AreAllowed, PushedFact, Tells, IsFree, AreTold}
+use Rattle.certified_lines.specs.Telling.{PushedBoth, keeps}
+use Rattle.certified_lines.specs.OperandLaws.{BothTell, OperationsTell}
+use Rattle.certified_lines.proofs.StraightRules.{fall_both}
+use Rattle.certified_lines.proofs.Instructions.{loaded_words_are_known, stored_words_are_known, registers_are_reversed}
+use Rattle.certified_lines.proofs.Numbers.{results_lie_in_ranges}
+use Rattle.certified_lines.proofs.Telling.{scopes_stay, stay_both, stay_fewer}
+
+-- ---- what is allowed
+
+pub allowed_first : (g : Scene) (ps qs : List Piece) → AreAllowed g (ps ++ qs) → AreAllowed g ps
+allowed_first g [] qs all = tt
+allowed_first g (p ∷ ps) qs all = (all.0, allowed_first g ps qs all.1)
+
+pub allowed_rest : (g : Scene) (ps qs : List Piece) → AreAllowed g (ps ++ qs) → AreAllowed g qs
+allowed_rest g [] qs all = all
+allowed_rest g (p ∷ ps) qs all = allowed_rest g ps qs all.1
+
+-- a temporary that is stored
+pub record IsTemporary (g : Setting) (t : ℕ) : Type 0 where
+  pub few : t < MAX_DATA_WORDS
+  pub counts : IsCounted t
+  pub writes : MayWrite g t
+  pub reads : MayRead g t
+
+free_counts : (t : ℕ) → IsFree t → IsCounted t
+unfolding counted
+free_counts t few = omega (arith, few)
+
+temporary_of : (g : Setting) (t : ℕ) → IsFree t → (counted t < MAX_DATA_WORDS) × MayWrite g (counted t)
+    × MayRead g (counted t) → IsTemporary g t
+temporary_of g t few may =
+    let same = free_counts t few in
+    record {
+      few = subst (λ (n : ℕ). n < MAX_DATA_WORDS) same may.0;
+      counts = same;
+      writes = subst (λ (n : ℕ). MayWrite g n) same may.1;
+      reads = subst (λ (n : ℕ). MayRead g n) same may.2;
+    }
+
+pub next_counted : (t : ℕ) → IsFree t → t ≤ word_after t 1
+unfolding word_after counted
+next_counted t few = omega (arith, few)
+
+pub next_free : (t : ℕ) → IsFree (word_after t 1)
+unfolding word_after counted
+next_free t = omega arith
+
+next_is : (t : ℕ) → t < MAX_DATA_WORDS → word_after t 1 ≡ t + 1
+unfolding word_after counted
+next_is t few = omega (arith, few)
+
+-- ---- a word that is stored stays alone
+
+same_word : (k : ℤ) → is_same_number k k ≡ true
+same_word k = grind (arith, ints)
+
+before_word : (t k : ℕ) → k < t → is_same_number (pos k) (pos t) ≡ false
+before_word t k less = grind (arith, ints)
+
+before_in_loop : (t k : ℕ) → k + 1 < t → is_same_number (pos k +ℤ pos 1) (pos t) ≡ false
+before_in_loop t k less = grind (arith, ints)
+
+count_before : (t k : ℕ) → k < t → is_same_number (pos k -ℤ pos 1) (pos t) ≡ false
+count_before t k less = grind (arith, ints)
+
+not_parted : (t k : ℕ) (w : WordFact) → k < t → IsWhole t k w → is_parted (is_at (pos t)) (pos k) w ≡ false
+not_parted t k (Alone fact) less whole = refl
+not_parted t k (Index loop) less whole = before_in_loop t k (omega (arith, whole))
+not_parted t k (Count loop) less whole = count_before t k less
+
+stored_by : (here parted : Bool) (fact : Fact) (w : WordFact) → here ≡ false → parted ≡ false
+    → cond here (Alone fact) (cond parted (Alone (by_itself w)) w) ≡ w
+stored_by true parted fact w away apart = absurd (cc away)
+stored_by false true fact w away apart = absurd (cc apart)
+stored_by false false fact w away apart = refl
+
+pub stored_stay : (t : ℕ) (fact : Fact) (f : Facts) → StayBefore t f (with_fact (pos t) fact f)
+stored_stay t fact f k less whole =
+    stored_by (is_at (pos t) (pos k)) (is_parted (is_at (pos t)) (pos k) (f (pos k))) fact (f (pos k))
+    (before_word t k less) (not_parted t k (f (pos k)) less whole)
+
+pub stored_there : (t : ℕ) (fact : Fact) (f : Facts) → with_fact (pos t) fact f (pos t) ≡ Alone fact
+stored_there t fact f =
+    ap (λ (here : Bool). cond here (Alone fact) (cond (is_parted (is_at (pos t)) (pos t) (f (pos t)))
+    (Alone (by_itself (f (pos t)))) (f (pos t)))) (same_word (pos t))
+
+-- ---- order
+
+in_either : (in_order : Bool) (r s : Ends) (k : Stack Known) → k.b.fact ≡ number_in r → k.a.fact ≡ number_in s
+    → AreTold in_order r s k
+in_either true r s k first second = (first, second)
+in_either false r s k first second = inl (first, second)
+
+-- what was in A is known below a value
+pub keeps_a : (g : Setting) (ps : List Piece) (t : ℕ) (leaf small : Bool) (r : Ends) (before : Told)
+    → (p : PushedFact g ps t leaf small r before) → (small || leaf) ≡ true
+    → p.after.stack.b.fact ≡ before.stack.a.fact
+keeps_a g ps t leaf true r before p is = p.below refl
+keeps_a g ps t true false r before p is = ap (λ (k : Told). k.stack.b.fact) (p.alone refl)
+keeps_a g ps t false false r before p is = absurd (cc is)
+
+pub both_true : (a b : Bool) → (a && b) ≡ true → (a ≡ true) × (b ≡ true)
+both_true true true is = (refl, refl)
+both_true true false is = absurd (cc is)
+both_true false b is = absurd (cc is)
+
+-- what is in A and B is exchanged, or not
+exchange_falls : (g : Setting) (in_order : Bool) (r s : Ends) (k : Told) → k.stack.a.fact ≡ number_in r
+    → k.stack.b.fact ≡ number_in s
+    → (after : Told) × FallOn g (exchanged in_order) k after × AreTold in_order r s after.stack
+    × (after.frame ≡ k.frame) × (after.stack.c ≡ k.stack.c)
+exchange_falls g true r s k first second =
+    (record k { stack = reversed k.stack }, registers_are_reversed g k, (first, second), refl, refl)
+exchange_falls g false r s k first second = (k, done, inr (second, first), refl, refl)
+
+told_number : (fact : Fact) (r : Ends) → fact ≡ number_in r → is_told fact ≡ true
+told_number fact r is = ap is_told is
+
+module _ (g : Scene) (top t : ℕ) (es : List Entry) (scope : IsScope g top es) (low : top ≤ t) (few : IsFree t)
+    (in_order : Bool) (r s : Ends) (xs ys : List Piece) (lx sx ly sy : Bool) (before : Told)
+    (holds : HoldsScope g es before.frame) where
+  -- the second operand leaves what is in A below its value
+  pub on_it : Tells g es xs t lx sx r → Tells g es ys (word_after t 1) ly sy s → sy ≡ true
+      → AreAllowed g (xs ++ ys) → PushedBoth g.setting (xs ++ ys) t in_order ((sx || lx) && ly) r s before
+  on_it push_x push_y small may =
+      let first = push_x (allowed_first g xs ys may) before holds in
+      let k = first.after in
+      let kept = scopes_stay g top t es before.frame k.frame scope low first.stay holds in
+      let second = push_y (allowed_rest g xs ys may) k kept in
+      record {
+        after = second.after;
+        falls = fall_both first.falls second.falls;
+        operands = in_either in_order r s second.after.stack (second.below small ∙ first.a) second.a;
+        stay = stay_both t before.frame k.frame second.after.frame first.stay
+            (stay_fewer t (word_after t 1) k.frame second.after.frame (next_counted t few) second.stay);
+        below = λ is.
+            let both = both_true (sx || lx) ly is in
+            ap (λ (k : Told). k.stack.c.fact) (second.alone both.1)
+            ∙ keeps_a g.setting xs t lx sx r before first both.0;
+      }
+
+  -- the first operand is one push, after the second one
+  pub on_other : Tells g es xs t lx sx r → Tells g es ys t ly sy s → lx ≡ true
+      → AreAllowed g (ys ++ (xs ++ exchanged in_order))
+      → PushedBoth g.setting (ys ++ (xs ++ exchanged in_order)) t in_order ((sx || lx) && ly) r s before
+  on_other push_x push_y leaf may =
+      let second = push_y (allowed_first g ys (xs ++ exchanged in_order) may) before holds in
+      let k = second.after in
+      let kept = scopes_stay g top t es before.frame k.frame scope low second.stay holds in
+      let rest = allowed_rest g ys (xs ++ exchanged in_order) may in
+      let first = push_x (allowed_first g xs (exchanged in_order) rest) k kept in
+      let alone = first.alone leaf in
+      let last = exchange_falls g.setting in_order r s first.after first.a
+      (ap (λ (k : Told). k.stack.b.fact) alone ∙ second.a) in
+      record {
+        after = last.0;
+        falls = fall_both second.falls (fall_both first.falls last.1);
+        operands = last.2;
+        stay = stay_both t before.frame k.frame last.0.frame second.stay
+            (subst (λ (f : Facts). StayBefore t k.frame f) (sym last.3) first.stay);
+        below = λ is.
+            let both = both_true (sx || lx) ly is in
+            ap (λ (k : Known). k.fact) last.4 ∙ ap (λ (k : Told). k.stack.c.fact) alone
+            ∙ ap (λ (k : Told). k.stack.b.fact) (second.alone both.1);
+      }
+
+  -- where the first operand is stored, and the second one and then the first one are pushed
+  record Waited (k : Told) : Type 0 where
+    after : Told
+    falls : FallOn g.setting (stores t ∷ (ys ++ back in_order t)) k after
+    operands : AreTold in_order r s after.stack
+    stay : StayBefore t k.frame after.frame
+    below : ly ≡ true → after.stack.c.fact ≡ k.stack.b.fact
+
+  came_back : (k stored : Told) → FallOn g.setting (stores t ∷ []) k stored → StayBefore t k.frame stored.frame
+      → stored.stack.a.fact ≡ k.stack.b.fact → IsNumber stored.frame t r → IsTemporary g.setting t
+      → PushedFact g.setting ys (word_after t 1) ly sy s stored → Waited k
+  came_back k stored stores stay below there temporary second =
+      let next : word_after t 1 ≡ t + 1 = next_is t temporary.few in
+      let waits : IsNumber second.after.frame t r =
+      second.stay t (omega (arith, next)) (subst (IsWhole (word_after t 1) t) (sym there) tt) ∙ there in
+      let loaded : Known = word_as_known (pos t) (second.after.frame (pos t)) in
+      let last = exchange_falls g.setting in_order r s (with_pushed loaded second.after)
+      (ap (λ (w : WordFact). (word_as_known (pos t) w).fact) waits) second.a in
+      let later : StayBefore t stored.frame second.after.frame =
+      stay_fewer t (word_after t 1) stored.frame second.after.frame (next_counted t few) second.stay in
+      record {
+        after = last.0;
+        falls = fall_both stores (fall_both second.falls
+            (fall_both (loaded_words_are_known g.setting t second.after temporary.counts temporary.reads) last.1));
+        operands = last.2;
+        stay = stay_both t k.frame stored.frame last.0.frame stay
+            (subst (λ (f : Facts). StayBefore t stored.frame f) (sym last.3) later);
+        below = λ is.
+            ap (λ (k : Known). k.fact) last.4 ∙ ap (λ (k : Told). k.stack.b.fact) (second.alone is) ∙ below;
+      }
+
+  behind_stored : (k : Told) → HoldsScope g es k.frame → k.stack.a.fact ≡ number_in r → IsTemporary g.setting t
+      → Tells g es ys (word_after t 1) ly sy s → AreAllowed g (ys ++ back in_order t) → Waited k
+  behind_stored k kept is temporary push_y may =
+      let stored : Told = without_a (with_word t k.stack.a.fact k) in
+      let stay : StayBefore t k.frame stored.frame = stored_stay t k.stack.a.fact k.frame in
+      let still = scopes_stay g top t es k.frame stored.frame scope low stay kept in
+      let there : IsNumber stored.frame t r =
+      stored_there t k.stack.a.fact k.frame ∙ ap (λ (f : Fact). Alone f) is in
+      came_back k stored
+      (stored_words_are_known g.setting t k temporary.counts temporary.writes (told_number k.stack.a.fact r is)) stay
+      refl there temporary (push_y (allowed_first g ys (back in_order t) may) stored still)
+
+  -- the first operand waits in a temporary
+  pub waiting : Tells g es xs t lx sx r → Tells g es ys (word_after t 1) ly sy s
+      → AreAllowed g (xs ++ (stores t ∷ (ys ++ back in_order t)))
+      → PushedBoth g.setting (xs ++ (stores t ∷ (ys ++ back in_order t))) t in_order ((sx || lx) && ly) r s before
+  waiting push_x push_y may =
+      let first = push_x (allowed_first g xs (stores t ∷ (ys ++ back in_order t)) may) before holds in
+      let rest = allowed_rest g xs (stores t ∷ (ys ++ back in_order t)) may in
+      let kept = scopes_stay g top t es before.frame first.after.frame scope low first.stay holds in
+      let second = behind_stored first.after kept first.a (temporary_of g.setting t few rest.0) push_y rest.1 in
+      record {
+        after = second.after;
+        falls = fall_both first.falls second.falls;
+        operands = second.operands;
+        stay = stay_both t before.frame first.after.frame second.after.frame first.stay second.stay;
+        below = λ is.
+            let both = both_true (sx || lx) ly is in
+            second.below both.1 ∙ keeps_a g.setting xs t lx sx r before first both.0;
+      }
+
+-- ---- two operands
+
+both_by : (lx sy : Bool) (g : Scene) (top t : ℕ) (es : List Entry) (in_order : Bool) (xs xs2 ys ys2 : List Piece)
+    (sx ly : Bool) (r s : Ends) (before : Told) → IsScope g top es → top ≤ t → IsFree t → Tells g es xs t lx sx r
+    → Tells g es ys t ly sy s → Tells g es ys2 (word_after t 1) ly sy s
+    → AreAllowed g (both in_order (comes_last lx sy) t
+    (record { first = xs; second = xs2; leaf = lx; small = sx })
+    (record { first = ys; second = ys2; leaf = ly; small = sy }))
+    → HoldsScope g es before.frame
+    → PushedBoth g.setting (both in_order (comes_last lx sy) t
+    (record { first = xs; second = xs2; leaf = lx; small = sx })
+    (record { first = ys; second = ys2; leaf = ly; small = sy })) t in_order ((sx || lx) && ly) r s before
+both_by true true g top t es in_order xs xs2 ys ys2 sx ly r s before scope low few px py py2 all holds =
+    on_it g top t es scope low few in_order r s xs ys2 true sx ly true before holds px py2 refl all
+both_by false true g top t es in_order xs xs2 ys ys2 sx ly r s before scope low few px py py2 all holds =
+    on_it g top t es scope low few in_order r s xs ys2 false sx ly true before holds px py2 refl all
+both_by true false g top t es in_order xs xs2 ys ys2 sx ly r s before scope low few px py py2 all holds =
+    on_other g top t es scope low few in_order r s xs ys true sx ly false before holds px py refl all
+both_by false false g top t es in_order xs xs2 ys ys2 sx ly r s before scope low few px py py2 all holds =
+    waiting g top t es scope low few in_order r s xs ys2 false sx ly false before holds px py2 all
+
+pub both_tell : BothTell
+both_tell g top t es in_order a b r s before scope low few push_a push_b all holds =
+    both_by a.leaf b.small g top t es in_order a.first a.second b.first b.second a.small b.leaf r s before scope low
+    few push_a.first push_b.first push_b.second all holds
+
+-- ---- operations
+
+-- the ranges of what is in B and A, whichever they are
+record AreRanged (op : Binary) (q : Ends) (k : Stack Known) : Type 0 where
+  first : Ends
+  second : Ends
+  b : IsNumberIn k.b first
+  a : IsNumberIn k.a second
+  gives : result_range op first second ≡ Some q
+
+ranged : (in_order : Bool) (op : Binary) (r s q : Ends) (k : Stack Known) → IsRange r → IsRange s
+    → AreTold in_order r s k → result_range op r s ≡ Some q → (in_order ≡ false → result_range op s r ≡ Some q)
+    → AreRanged op q k
+ranged true op r s q k x y are gives either = record {
+  first = r;
+  second = s;
+  b = record { is = are.0; range = x };
+  a = record { is = are.1; range = y };
+  gives = gives;
+}
+ranged false op r s q k x y (inl are) gives either = record {
+  first = r;
+  second = s;
+  b = record { is = are.0; range = x };
+  a = record { is = are.1; range = y };
+  gives = gives;
+}
+ranged false op r s q k x y (inr are) gives either = record {
+  first = s;
+  second = r;
+  b = record { is = are.0; range = y };
+  a = record { is = are.1; range = x };
+  gives = either refl;
+}
+
+-- an operation of two operands that are pushed
+pub operation_behind : (g : Setting) (ps : List Piece) (t : ℕ) (in_order kept : Bool) (operation : ℤ) (op : Binary)
+    (r s q : Ends) (before : Told) → IsRange r → IsRange s → op_of operation ≡ Some (ops.Binary op)
+    → result_range op r s ≡ Some q → (in_order ≡ false → result_range op s r ≡ Some q)
+    → PushedBoth g ps t in_order kept r s before
+    → PushedFact g (ps ++ operates operation ∷ []) t false kept q before
+operation_behind g ps t in_order kept operation op r s q before x y named gives either two =
+    let k = two.after in
+    let are = ranged in_order op r s q k.stack x y two.operands gives either in
+    record {
+      after = with_result (record { fact = number_in q; source = result_source op k.stack.b k.stack.a }) k;
+      falls = fall_both two.falls (results_lie_in_ranges g operation op are.first are.second q k named are.b are.a
+          are.gives);
+      a = refl;
+      stay = two.stay;
+      below = λ is. two.below is;
+      alone = λ is. absurd (cc is);
+    }
+
+pub operations_tell : OperationsTell
+operations_tell g top t es in_order a b operation op r s q before scope low few x y push_a push_b named gives either
+    all holds =
+    let code : List Piece = both in_order (comes_last a.leaf b.small) t a b in
+    operation_behind g.setting code t in_order (keeps a b) operation op r s q before x y named gives either
+    (both_tell g top t es in_order a b r s before scope low few push_a push_b
+    (allowed_first g code (operates operation ∷ []) all) holds)
