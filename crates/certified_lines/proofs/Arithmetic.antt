@@ -1,5 +1,6 @@
 -- What the code of an operator between two numbers leaves known.
-use Rattle.std.proofs.Common.{◌≡◌, ℕ, ◌≤◌, ℤ, pos, Bool, true, false, ◌&&◌, ◌||◌, List, [], ◌∷◌, ◌++◌, Option, Some, None}
+use Rattle.std.proofs.Common.{◌≡◌, ℕ, ◌≤◌, ℤ, pos, Bool, true, false, ◌&&◌, ◌||◌, List, [], ◌∷◌, ◌++◌, Option, Some}
+use Rattle.std.proofs.Common.{None}
 use Rattle.std.proofs.Common.{FitsSigned, refl, sym, ap, subst, ◌∙◌}
 use Rattle.std.specs.Int.{w32}
 use Rattle.word_arithmetic.specs.Word.{checked_difference}

@@ -8,7 +8,8 @@ use Rattle.std.proofs.lemmas.Bool.{leb-true, le-leb}
 use Rattle.std.proofs.lemmas.List.{append-nil}
 use Rattle.word_arithmetic.specs.Word.{least_word}
 use Rattle.word_arithmetic.specs.Range as ranges
-use Rattle.word_arithmetic.specs.Range.{Ends, IsRange, full, product_range, word_sum_range, word_product_range, and_range}
+use Rattle.word_arithmetic.specs.Range.{Ends, IsRange, full, product_range, word_sum_range, word_product_range}
+use Rattle.word_arithmetic.specs.Range.{and_range}
 use Rattle.word_arithmetic.specs.Range.{or_range, xor_range}
 use Rattle.word_arithmetic.specs.Binary.{result_range}
 use Rattle.word_arithmetic.specs.declared.binary.Binary.{Binary}

@@ -1,5 +1,6 @@
 -- What the code of prefixes and of comparisons leaves known.
-use Rattle.std.proofs.Common.{◌≡◌, ℕ, ◌≤◌, inl, inr, ℤ, pos, Bool, true, false, ◌&&◌, ◌||◌, List, [], ◌∷◌, ◌++◌, Option, Some}
+use Rattle.std.proofs.Common.{◌≡◌, ℕ, ◌≤◌, inl, inr, ℤ, pos, Bool, true, false, ◌&&◌, ◌||◌, List, [], ◌∷◌, ◌++◌}
+use Rattle.std.proofs.Common.{Option, Some}
 use Rattle.std.proofs.Common.{None, FitsSigned, refl, sym, ap, subst, ◌∙◌, arith, append_assoc}
 use Rattle.std.specs.Prelude.{◌+ℤ◌, ◌-ℤ◌}
 use Rattle.std.specs.Int.{w32}
@@ -43,7 +44,7 @@ use Rattle.certified_lines.proofs.Operands.{both_tell, operations_tell, allowed_
 use Rattle.certified_lines.proofs.Operands.{both_true}
 use Rattle.certified_lines.proofs.Arithmetic.{replaced, fewer_kept, kept_of, first_of}
 
-greater_range : (r s : Ends) → result_range binary.Greater r s ≡ Some truths
+pub greater_range : (r s : Ends) → result_range binary.Greater r s ≡ Some truths
 unfolding result_range
 greater_range r s = refl
 
@@ -65,7 +66,7 @@ compared_with g ps t leaf small r e before x fits p =
     (record { fact = number_in truths; source = equal_source p.after.stack.a e }) before p refl
     (comparisons_are_truths g e r p.after (record { is = p.a; range = x }) fits)
 
-zero_fits : FitsSigned w32 (pos 0)
+pub zero_fits : FitsSigned w32 (pos 0)
 zero_fits = omega (arith, ints)
 
 pub truths_ranged : IsRange truths
@@ -74,7 +75,8 @@ truths_ranged = record { lo_fits = omega (arith, ints); hi_fits = omega (arith, 
 -- the truth that it is not, behind pieces that follow others
 turned_behind : (g : Scene) (ps qs : List Piece) (t : ℕ) (leaf small : Bool) (before : Told)
     → (AreAllowed g (ps ++ qs) → PushedFact g.setting (ps ++ qs) t leaf small truths before)
-    → AreAllowed g (ps ++ (qs ++ negates ∷ [])) → PushedFact g.setting (ps ++ (qs ++ negates ∷ [])) t false small truths before
+    → AreAllowed g (ps ++ (qs ++ negates ∷ [])) → PushedFact g.setting (ps ++ (qs ++ negates ∷ [])) t false small
+    truths before
 turned_behind g ps qs t leaf small before tells all =
     subst (λ (rs : List Piece). PushedFact g.setting rs t false small truths before) (append_assoc ps qs (negates ∷ []))
     (compared_with g.setting (ps ++ qs) t leaf small truths (pos 0) before truths_ranged zero_fits
@@ -159,12 +161,12 @@ either_differ g r s k x y (inl are) =
 either_differ g r s k x y (inr are) =
     differ g s r k (record { is = are.0; range = y }) (record { is = are.1; range = x })
 
-above_fits : (c d : ℤ) → next_above (Some c) ≡ Some d → FitsSigned w32 d
+pub above_fits : (c d : ℤ) → next_above (Some c) ≡ Some d → FitsSigned w32 d
 above_fits c d is =
     let by = checked_by (is_word (c +ℤ pos 1)) (c +ℤ pos 1) d is in
     subst (FitsSigned w32) by.1 (is_word_out (c +ℤ pos 1) by.0)
 
-below_fits : (c d : ℤ) → next_below (Some c) ≡ Some d → FitsSigned w32 d
+pub below_fits : (c d : ℤ) → next_below (Some c) ≡ Some d → FitsSigned w32 d
 below_fits c d is =
     let by = checked_by (is_word (c -ℤ pos 1)) (c -ℤ pos 1) d is in
     subst (FitsSigned w32) by.1 (is_word_out (c -ℤ pos 1) by.0)

@@ -1,6 +1,8 @@
 -- What the code of elements leaves known.
-use Rattle.std.proofs.Common.{◌≡◌, ℕ, zero, suc, ◌+◌, ◌*◌, ◌/◌, ◌%◌, ◌-◌, ◌==◌, ◌<◌, ◌≤◌, ℤ, pos, negsuc, ◌+ℤ◌, ◌-ℤ◌, ◌*ℤ◌}
-use Rattle.std.proofs.Common.{◌≤ℤ◌, ◌<ℤ◌, nat_abs, Bool, true, false, cond, not, ◌&&◌, nat_eq, List, [], ◌∷◌, ◌++◌, length}
+use Rattle.std.proofs.Common.{◌≡◌, ℕ, zero, suc, ◌+◌, ◌*◌, ◌/◌, ◌%◌, ◌-◌, ◌==◌, ◌<◌, ◌≤◌, ℤ, pos, negsuc, ◌+ℤ◌, ◌-ℤ◌}
+use Rattle.std.proofs.Common.{◌*ℤ◌}
+use Rattle.std.proofs.Common.{◌≤ℤ◌, ◌<ℤ◌, nat_abs, Bool, true, false, cond, not, ◌&&◌, nat_eq, List, [], ◌∷◌, ◌++◌}
+use Rattle.std.proofs.Common.{length}
 use Rattle.std.proofs.Common.{Option, Some, None, Result, Ok, Err, refl, sym, ap, subst, ◌∙◌, arith, append_assoc}
 use Rattle.std.specs.Prelude.{int_le}
 use Rattle.std.proofs.lemmas.Int.{ints}
@@ -220,7 +222,8 @@ module _ (g : Setting) (region : Region) (base size : ℕ) (few : base ≤ 10000
       let c_near = select.near in
       let lo : ℤ = pos base +ℤ (pos 4 *ℤ r.lo) in
       let hi : ℤ = pos base +ℤ (pos 4 *ℤ r.hi) in
-      let near = both_near lo hi (omega (arith, ints, lo_is, c_near)) (omega (arith, ints, lo_is, c_low, few, small, inside))
+      let near = both_near lo hi (omega (arith, ints, lo_is, c_near))
+      (omega (arith, ints, lo_is, c_low, few, small, inside))
       (omega (arith, ints, hi_is, c_near)) (omega (arith, ints, hi_is, c_low, few, small, inside)) in
       let second : Told = with_result (known (Pointer region lo hi WordStep)) pushed in
       let there : Pointed = record {
@@ -280,7 +283,8 @@ words_readable g word count first more inside may =
     let end : 4 * word + 4 * (first + more) ≡ 4 * ((word + first) + more) = omega arith in
     let test : ℤ → Bool = may_read_word g.contents g.context in
     (λ i. all_words test (word_of_byte (pos (start i))) (words_touched (pos (start i)) (pos (end i) +ℤ pos 4)))
-    ∙ ((λ i. all_words test (spans_are_of_words.first (word + first) i) (spans_are_of_words.touched (word + first) more i))
+    ∙ ((λ i. all_words test (spans_are_of_words.first (word + first) i)
+    (spans_are_of_words.touched (word + first) more i))
     ∙ reads_all g (word + first) (suc more) (some_of g word count first more inside may))
 
 words_say : (g : Setting) (word count first more : ℕ) (s : Told) → first + more < count
@@ -292,7 +296,8 @@ words_say g word count first more s inside known =
     let end : 4 * word + 4 * (first + more) ≡ 4 * ((word + first) + more) = omega arith in
     (λ i. word_read g.contents (told_state g s) regions.Frame (pos (start i)) (pos (end i)))
     ∙ elements_are_numbers g.contents (told_state g s) full (word + first) more full_ranged
-    (λ n up. subst (λ (k : ℕ). IsNumber s.frame k full) (regroup word first n) (known (first + n) (omega (arith, inside, up))))
+    (λ n up. subst (λ (k : ℕ). IsNumber s.frame k full) (regroup word first n)
+    (known (first + n) (omega (arith, inside, up))))
   where
     regroup : (a b c : ℕ) → a + (b + c) ≡ a + b + c
     regroup a b c = omega arith
@@ -487,7 +492,8 @@ unfolding may_read_bytes
 bytes_readable g w count first last up low high may =
     ap (λ (n : ℕ). all_words (may_read_word g.contents g.context) (pos (first / 4)) n) (bytes_touched first last up)
     ∙ reads_all g (first / 4) (suc (last / 4 - first / 4))
-    (λ n less. subst (λ (k : ℕ). MayRead g k) (from_word n) (may (first / 4 - w + n) (omega (arith, up, low, high, less))))
+    (λ n less. subst (λ (k : ℕ). MayRead g k) (from_word n)
+    (may (first / 4 - w + n) (omega (arith, up, low, high, less))))
   where
     from_word : (n : ℕ) → w + (first / 4 - w + n) ≡ first / 4 + n
     from_word n = omega (arith, low)
@@ -611,7 +617,8 @@ known_byte_by true g w count n t small told test inside array =
     (sym (word_is w (n / 4) here))
     (record {
       after = one.after;
-      falls = fall_both (addresses_are_known g.setting word told (few_counted word here) (omega (arith, here))) one.falls;
+      falls = fall_both (addresses_are_known g.setting word told (few_counted word here) (omega (arith, here)))
+          one.falls;
       a = one.a;
       stay = λ k less whole. ap (λ (f : Facts). f (pos k)) one.frame;
       below = λ is. ap (λ (k : Known). k.fact) one.b;
@@ -625,14 +632,15 @@ known_byte_by false g w count n t small told test inside array =
     let place : pos (4 * word) +ℤ pos byte ≡ pos (4 * w + n) = omega (arith, ints) in
     let first : Told = with_pushed (known_constant (pos byte)) told in
     let one = byte_selected g w count told array word (ranges.constant (pos byte))
-    (with_pushed (known (word_pointer word)) first) (4 * w + n) (4 * w + n) refl refl refl place place here (omega arith)
-    (omega arith) (omega (arith, inside)) in
+    (with_pushed (known (word_pointer word)) first) (4 * w + n) (4 * w + n) refl refl refl place place here
+    (omega arith) (omega arith) (omega (arith, inside)) in
     subst (λ (a : ℕ). PushedFact g.setting (constant (pos byte) ∷ points a ∷ operates BYTE_SUBSCRIPT
     ∷ operates LOAD_BYTE ∷ []) t false small bytes told) (sym (word_is w (n / 4) here))
     (record {
       after = one.after;
       falls = fall_both (constants_are_known g.setting (pos byte) told)
-          (fall_both (addresses_are_known g.setting word first (few_counted word here) (omega (arith, here))) one.falls);
+          (fall_both (addresses_are_known g.setting word first (few_counted word here) (omega (arith, here)))
+          one.falls);
       a = one.a;
       stay = λ k less whole. ap (λ (f : Facts). f (pos k)) one.frame;
       below = λ is. ap (λ (k : Known). k.fact) one.b;

@@ -1,5 +1,6 @@
 -- What the code of whole expressions leaves known.
-use Rattle.std.proofs.Common.{◌≡◌, ℕ, ◌+◌, ◌≤◌, inl, inr, ℤ, pos, negsuc, ◌+ℤ◌, ◌≤ℤ◌, ◌<ℤ◌, Bool, true, false, ◌&&◌, cond}
+use Rattle.std.proofs.Common.{◌≡◌, ℕ, ◌+◌, ◌≤◌, inl, inr, ℤ, pos, negsuc, ◌+ℤ◌, ◌≤ℤ◌, ◌<ℤ◌, Bool, true, false, ◌&&◌}
+use Rattle.std.proofs.Common.{cond}
 use Rattle.std.proofs.Common.{List, [], ◌∷◌, ◌++◌, Option, Some, None, Result, Ok, refl, sym, ap, subst, ◌∙◌, arith}
 use Rattle.std.proofs.Common.{FitsSigned}
 use Rattle.std.specs.Prelude.{int_le, int_lt, unsigned_abs}
@@ -44,7 +45,8 @@ use Rattle.scalar_ranges.proofs.Parts.{both_ok, then_ok, passed_ok, ok_same}
 use Rattle.code_pieces.specs.Pieces.{Piece, constant, word_after}
 use Rattle.line_pieces.specs.Homes as home
 use Rattle.line_pieces.specs.Homes.{Home, Word, home_of}
-use Rattle.line_pieces.specs.Expressions.{Operand, beside, constant_or, is_known, expression_code, term_code, terms_code}
+use Rattle.line_pieces.specs.Expressions.{Operand, beside, constant_or, is_known, expression_code, term_code}
+use Rattle.line_pieces.specs.Expressions.{terms_code}
 use Rattle.line_pieces.specs.Expressions.{is_leaf, is_leaf_term, is_small, is_small_term, are_small, pushed, pushes_of}
 use Rattle.line_pieces.specs.Expressions.{pair_code, prefix_code, covered, truth, scalar_code, is_byte_reference}
 use Rattle.line_pieces.specs.Expressions.{is_pushed}
@@ -194,7 +196,7 @@ module _ (g : Scene) (top : ℕ) (es : List Entry) where
   exact_typed types.Byte b r is exact = refl
   exact_typed types.Condition b r is exact = absurd (cc (sym exact.is ∙ is.0))
 
-  exact_fits : (type : ExprType) (b : Bound) (r : Ends) → IsRangeOf type b r → IsRange r → (v : ℤ) → b ≡ Exactly v
+  pub exact_fits : (type : ExprType) (b : Bound) (r : Ends) → IsRangeOf type b r → IsRange r → (v : ℤ) → b ≡ Exactly v
       → FitsSigned w32 v
   exact_fits types.Int b r is ranged v same =
       subst (FitsSigned w32) (ap (λ (e : Ends). e.lo) (is ∙ ap ends same)) ranged.lo_fits
@@ -212,7 +214,8 @@ module _ (g : Scene) (top : ℕ) (es : List Entry) where
   term_tells x type b is told t low few = record {
     ranged = told.ranged;
     tells = operand_told x told.range told.tells t low few;
-    only = subst (λ (o : Option ℤ). IsOnly o told.range) (sym (ap exact_value is)) (only_told type b told.range told.is);
+    only = subst (λ (o : Option ℤ). IsOnly o told.range) (sym (ap exact_value is))
+        (only_told type b told.range told.is);
   }
 
   module _ (scope : IsScope g top es) where
@@ -230,7 +233,8 @@ module _ (g : Scene) (top : ℕ) (es : List Entry) where
         → NumberOf y c → ExpressionTells g top es (Paired (pair.Arithmetic op) x y) types.Int d
     arithmetic_told op x y b c d y_is is gives first second =
         either_told (λ q. pair_range op (ends b) (ends c) ≡ Some q)
-        (λ t. pushed (pushes_of (pair.Arithmetic op) (exact_value (bound_of_term es x)) (exact_value (bound_of_term es y)))
+        (λ t. pushed (pushes_of (pair.Arithmetic op) (exact_value (bound_of_term es x))
+        (exact_value (bound_of_term es y)))
         t (operand x t) (operand y t)
         ++ pair_code (pair.Arithmetic op) (exact_value (bound_of_term es x)) (exact_value (bound_of_term es y)))
         is_known (is_small_term es x && is_leaf_term es y) d
@@ -269,7 +273,8 @@ module _ (g : Scene) (top : ℕ) (es : List Entry) where
         → NumberOf x b → NumberOf y c → ExpressionTells g top es (Paired (pair.Comparison op) x y) types.Condition d
     compared_told op x y b c d x_is y_is is truths first second =
         truths_or
-        (λ t. pushed (pushes_of (pair.Comparison op) (exact_value (bound_of_term es x)) (exact_value (bound_of_term es y)))
+        (λ t. pushed (pushes_of (pair.Comparison op) (exact_value (bound_of_term es x))
+        (exact_value (bound_of_term es y)))
         t (operand x t) (operand y t)
         ++ pair_code (pair.Comparison op) (exact_value (bound_of_term es x)) (exact_value (bound_of_term es y)))
         (is_small es (Paired (pair.Comparison op) x y)) d (exact_value (bound_of es (Paired (pair.Comparison op) x y)))
@@ -313,8 +318,8 @@ module _ (g : Scene) (top : ℕ) (es : List Entry) where
         (λ q range. (
           ranged q range,
           λ t low few all before holds.
-              prefixes_tell g.setting t op (term_code g.homes es t x) (is_leaf_term es x) (is_small_term es x) (ends b) q before
-              told.ranged range
+              prefixes_tell g.setting t op (term_code g.homes es t x) (is_leaf_term es x) (is_small_term es x)
+              (ends b) q before told.ranged range
               (told.tells t low few (allowed_first g (term_code g.homes es t x) (prefix_code op) all) before holds),
         ))
 
@@ -333,11 +338,12 @@ module _ (g : Scene) (top : ℕ) (es : List Entry) where
         (λ q range. subst IsRange (same_Some (not_range (ends b)) q range) (not_ranged (ends b) number.ranged)) number)
     prefixed_told prefix.Not x types.Condition type b d is typed gives told =
         as_bound (ok_same types.Condition type typed) refl
-        (truths_or (prefixed_code prefix.Not x) (is_small_term es x) d (exact_value (bound_of es (Prefixed prefix.Not x)))
+        (truths_or (prefixed_code prefix.Not x) (is_small_term es x) d
+        (exact_value (bound_of es (Prefixed prefix.Not x)))
         (sym (ap exact_value is)) (sym (ok_same (Within truths) d gives))
         (λ t low few all before holds.
-        prefixes_tell g.setting t prefix.Not (term_code g.homes es t x) (is_leaf_term es x) (is_small_term es x) told.range
-        truths before told.ranged refl
+        prefixes_tell g.setting t prefix.Not (term_code g.homes es t x) (is_leaf_term es x) (is_small_term es x)
+        told.range truths before told.ranged refl
         (told.tells t low few (allowed_first g (term_code g.homes es t x) (prefix_code prefix.Not) all) before holds)))
     prefixed_told op x s type b d is typed gives told = absurd (cc typed)
 
@@ -408,7 +414,8 @@ module _ (g : Scene) (top : ℕ) (es : List Entry) where
         (subst (λ (e : Ends). JoinedTold (chain.Arithmetic op) ts (ends b) e types.Int d) (sym y)
         (either_joined op ts b c d is (subst IsRange x x_ranged) (subst IsRange y y_ranged)
         (chain_is op b c d (subst IsRange x x_ranged) (subst IsRange y y_ranged) gives))))
-    joined_told (chain.Logic op) ts r s types.Condition types.Condition type b c d is typed gives x y x_ranged y_ranged =
+    joined_told (chain.Logic op) ts r s types.Condition types.Condition type b c d is typed gives x y x_ranged
+        y_ranged =
         subst (λ (t : ExprType). JoinedTold (chain.Logic op) ts r s t d) (ok_same types.Condition type typed)
         (logic_joined op ts r s b c d is (sym (ok_same (Within truths) d gives)) x y)
     joined_told op ts r s p u type b c d is typed gives x y x_ranged y_ranged = absurd (cc typed)
@@ -440,8 +447,8 @@ module _ (g : Scene) (top : ℕ) (es : List Entry) where
         → bound_of_term es x ≡ Ok c → bound_of_terms es op (Then ts x) ≡ Ok d → chain_type op p u ≡ Ok type
         → chain_bound op b c ≡ Ok d → TermsTold op ts p b → TermTold x u c → TermsTold op (Then ts x) type d
     more_told op ts x p u type b c d x_is is typed gives first second =
-        let joined = joined_told op (Then ts x) first.range second.range p u type b c d is typed gives first.is second.is
-        first.ranged second.ranged in
+        let joined = joined_told op (Then ts x) first.range second.range p u type b c d is typed gives first.is
+        second.is first.ranged second.ranged in
         record {
           range = joined.range;
           is = joined.is;
@@ -462,7 +469,8 @@ module _ (g : Scene) (top : ℕ) (es : List Entry) where
           is = told.is;
           ranged = told.ranged;
           tells = λ t low few.
-              subst (λ (q : Ends). Tells g es (terms_code g.homes es t op (front_in es op ts) ts) t false (are_small es ts) q)
+              subst (λ (q : Ends). Tells g es (terms_code g.homes es t op (front_in es op ts) ts) t false
+              (are_small es ts) q)
               (ap (λ (o : Option ℤ). front_or o told.range) (uncovered es op ts none))
               (terms_tell g top t es op (front_in es op ts) ts told.range scope low few
               (told.terms (front_in es op ts) (fronts_fit es op ts) t low few)).1;

@@ -1,6 +1,8 @@
 -- What the code of names, of elements and so of every expression leaves known.
-use Rattle.std.proofs.Common.{◌≡◌, ℕ, ◌+◌, ◌≤◌, ◌<◌, inl, inr, ℤ, pos, negsuc, ◌+ℤ◌, ◌≤ℤ◌, ◌<ℤ◌, Bool, true, false, ◌&&◌}
-use Rattle.std.proofs.Common.{cond, List, [], ◌∷◌, ◌++◌, Option, Some, None, Result, Ok, refl, sym, ap, subst, ◌∙◌, arith}
+use Rattle.std.proofs.Common.{◌≡◌, ℕ, ◌+◌, ◌≤◌, ◌<◌, inl, inr, ℤ, pos, negsuc, ◌+ℤ◌, ◌≤ℤ◌, ◌<ℤ◌, Bool, true, false}
+use Rattle.std.proofs.Common.{◌&&◌}
+use Rattle.std.proofs.Common.{cond, List, [], ◌∷◌, ◌++◌, Option, Some, None, Result, Ok, refl, sym, ap, subst, ◌∙◌}
+use Rattle.std.proofs.Common.{arith}
 use Rattle.std.proofs.Common.{FitsSigned}
 use Rattle.std.specs.Prelude.{int_le, int_lt, unsigned_abs, option_map}
 use Rattle.std.specs.Int.{w32}
@@ -44,8 +46,10 @@ use Rattle.code_pieces.specs.declared.operations.TheConstants.{LOAD_BYTE, WORD_S
 use Rattle.placed_code.specs.TablesInMemory.{ReadsTable}
 use Rattle.line_pieces.specs.Homes as home
 use Rattle.line_pieces.specs.Homes.{Home, Nowhere, Word, Block, Link, Passed, home_of}
-use Rattle.line_pieces.specs.Expressions.{constant_or, expression_code, term_code, first_code, is_leaf, is_leaf_term, is_small}
-use Rattle.line_pieces.specs.Expressions.{is_small_term, truth, scalar_code, is_byte_reference, is_pushed, single, Subscript}
+use Rattle.line_pieces.specs.Expressions.{constant_or, expression_code, term_code, first_code, is_leaf, is_leaf_term}
+use Rattle.line_pieces.specs.Expressions.{is_small}
+use Rattle.line_pieces.specs.Expressions.{is_small_term, truth, scalar_code, is_byte_reference, is_pushed, single}
+use Rattle.line_pieces.specs.Expressions.{Subscript}
 use Rattle.line_pieces.specs.Expressions.{offset_of, offset_or_none, added_by, greatest_offset, without, or_zero}
 use Rattle.line_pieces.specs.Expressions.{before_offset, subscript_of, element_code, element_of_words, element_of_table}
 use Rattle.line_pieces.specs.Expressions.{loads_at, subscript_code}
@@ -58,10 +62,12 @@ use Rattle.certified_lines.proofs.Telling.{constants_tell, scalars_tell, name_ha
 use Rattle.certified_lines.proofs.Ranges.{constant_ranged, truth_ranged}
 use Rattle.certified_lines.proofs.Operands.{allowed_first, allowed_rest}
 use Rattle.certified_lines.proofs.Bounded.{ranges_give_is, full_ranged}
-use Rattle.certified_lines.proofs.Elements.{known_words_tell, words_tell, known_bytes_tell, bytes_tell, known_items_tell}
+use Rattle.certified_lines.proofs.Elements.{known_words_tell, words_tell, known_bytes_tell, bytes_tell}
+use Rattle.certified_lines.proofs.Elements.{known_items_tell}
 use Rattle.certified_lines.proofs.Elements.{items_tell, as_natural}
 use Rattle.certified_lines.proofs.Expressions.{TermTold, constant_told, literal_told, as_bound, of_values, truths_told}
-use Rattle.certified_lines.proofs.Expressions.{alone_told, prefixed_told, paired_told, chained_told, TermsTold, two_told}
+use Rattle.certified_lines.proofs.Expressions.{alone_told, prefixed_told, paired_told, chained_told, TermsTold}
+use Rattle.certified_lines.proofs.Expressions.{two_told}
 use Rattle.certified_lines.proofs.Expressions.{more_told, exact_is}
 
 same_exact : (u v : ℤ) → ◌≡◌ {A = Bound} (Exactly u) (Exactly v) → u ≡ v
@@ -114,7 +120,8 @@ module _ (g : Scene) (top : ℕ) (es : List Entry) (scope : IsScope g top es) wh
           (λ e. of_values g top es kind d (ends d) refl)
           (λ u same. subst (FitsSigned w32) (same_exact v u (sym exact ∙ same))
           (constant_housed g top (home_of g.homes es name) kind v (housed name (Constant kind (Some v)) means)))
-          (λ none. absurd (cc (sym (ap (λ (b : Bound). exact_value (Ok b)) exact) ∙ (sym (ap exact_value there) ∙ none)))))
+          (λ none. absurd (cc (sym (ap (λ (b : Bound). exact_value (Ok b)) exact)
+          ∙ (sym (ap exact_value there) ∙ none)))))
       by_meaning (Some (Scalar kind of range)) means typed is =
           let within : d ≡ Within range = sym (ok_same (Within range) d is) in
           let there : bound_of_term es (Named name) ≡ Ok d = ap named_bound means ∙ is in
@@ -126,7 +133,8 @@ module _ (g : Scene) (top : ℕ) (es : List Entry) (scope : IsScope g top es) wh
           (λ none. record {
             range = range;
             is = of_values g top es of d range (ap ends (sym within));
-            ranged = scalar_ranged g top (home_of g.homes es name) kind of range (housed name (Scalar kind of range) means);
+            ranged = scalar_ranged g top (home_of g.homes es name) kind of range
+                (housed name (Scalar kind of range) means);
             tells = λ t low few all.
                 scalars_tell g top t es name kind of range (is_byte_reference (meaning_in name es))
                 (is_pushed (meaning_in name es)) true scope means;
@@ -320,8 +328,8 @@ module _ (g : Scene) (top : ℕ) (es : List Entry) (size : ℕ) where
   subscript_told (Chained op (Then ts x)) d typed is several inside told first =
       whole_told g top es (Chained op (Then ts x)) size d told inside
   subscript_told (Chained op (Two x y)) d typed is several inside told first =
-      offset_told op x y d (offset_or_none (added_by op (exact_value (bound_of_term es y)))) refl typed is several inside
-      told first
+      offset_told op x y d (offset_or_none (added_by op (exact_value (bound_of_term es y)))) refl typed is several
+      inside told first
 
 -- ---- elements
 
@@ -377,9 +385,11 @@ module _ (g : Scene) (top : ℕ) (es : List Entry) (scope : IsScope g top es) (n
         is = same;
         ranged = full_ranged;
         tells = λ t low few all s holds.
-            subst (λ (z : ℤ). PushedFact g.setting (element_of_words value_type.Int w (Some z) (sub t)) t false small full s)
+            subst (λ (z : ℤ). PushedFact g.setting (element_of_words value_type.Int w (Some z) (sub t)) t false small
+            full s)
             (sym only.is)
-            (known_words_tell g top t w only.number size es name range (sub t) false small scope array only.inside s holds);
+            (known_words_tell g top t w only.number size es name range (sub t) false small scope array only.inside s
+            holds);
       }
   words_element w size range d None one inside array same =
       let subscript = subscript_told g top es size e b typed is (not_single b one) inside told first in
@@ -405,8 +415,8 @@ module _ (g : Scene) (top : ℕ) (es : List Entry) (scope : IsScope g top es) (n
         is = same;
         ranged = bytes_ranged;
         tells = λ t low few all s holds.
-            subst (λ (z : ℤ). PushedFact g.setting (element_of_words value_type.Byte w (Some z) (sub t)) t false small bytes
-            s) (sym only.is)
+            subst (λ (z : ℤ). PushedFact g.setting (element_of_words value_type.Byte w (Some z) (sub t)) t false small
+            bytes s) (sym only.is)
             (known_bytes_tell g top t w only.number size es name range (sub t) small scope array only.inside s holds);
       }
   bytes_element w size range d None one inside array same =
@@ -449,8 +459,8 @@ module _ (g : Scene) (top : ℕ) (es : List Entry) (scope : IsScope g top es) (n
             let code : List Piece = before_offset (sub t) in
             let rest : List Piece =
             TableAddress values ∷ operates WORD_SUBSCRIPT ∷ loads_at (or_zero (offset_of es e)) ∷ [] in
-            items_tell g top t size es name type values range subscript.range (sub t) subscript.leaf small scope low array
-            (allowed_rest g code rest all).0 subscript.select
+            items_tell g top t size es name type values range subscript.range (sub t) subscript.leaf small scope low
+            array (allowed_rest g code rest all).0 subscript.select
             (subscript.tells t low few (allowed_first g code rest all));
       }
 
@@ -459,8 +469,8 @@ module _ (g : Scene) (top : ℕ) (es : List Entry) (scope : IsScope g top es) (n
       → home_of g.homes es name ≡ o → meaning_in name es ≡ Some (Array kind type size range)
       → IsHousedThere g top o (Array kind type size range)
       → element_bound (Some (Array kind type size range)) b ≡ Ok d
-      → IsTold g top es (λ t. element_code o (Some (Array kind type size range)) (single (Ok (ends b))) (sub t)) false small
-      (type_of_values type) d
+      → IsTold g top es (λ t. element_code o (Some (Array kind type size range)) (single (Ok (ends b))) (sub t)) false
+      small (type_of_values type) d
   element_by None kind type size range d at means house gives = absurd house
   element_by (Some Nowhere) kind type size range d at means house gives = absurd house
   element_by (Some (Block w head)) kind type size range d at means house gives = absurd house
@@ -493,7 +503,8 @@ module _ (g : Scene) (top : ℕ) (es : List Entry) (scope : IsScope g top es) (n
       by_meaning (Some (Array kind elements size range)) means of gives =
           let k : Meaning = Array kind elements size range in
           as_bound g top es (ok_same (type_of_values elements) a of ∙ same) refl
-          (subst (λ (r : Result Bound ℕ). IsTold g top es (λ t. element_code (home_of g.homes es name) (meaning_in name es)
+          (subst (λ (r : Result Bound ℕ). IsTold g top es
+          (λ t. element_code (home_of g.homes es name) (meaning_in name es)
           (single (range_found r)) (sub t)) false small (type_of_values elements) d) (sym is)
           (subst (λ (m : Option Meaning). IsTold g top es (λ t. element_code (home_of g.homes es name) m
           (single (Ok (ends b))) (sub t)) false small (type_of_values elements) d) (sym means)
@@ -514,14 +525,16 @@ converted_told g top es to x types.Condition type b d typed gives told = absurd 
 converted_told g top es to x types.Int type b d typed gives told =
     as_bound g top es (ok_same (type_of_values to) type typed) refl (record {
       range = told.range;
-      is = of_values g top es to d told.range (told.is ∙ ap ends (passed_ok (is_within (ends b) (type_range to)) OUT_OF_RANGE b d gives).1);
+      is = of_values g top es to d told.range (told.is
+          ∙ ap ends (passed_ok (is_within (ends b) (type_range to)) OUT_OF_RANGE b d gives).1);
       ranged = told.ranged;
       tells = told.tells;
     })
 converted_told g top es to x types.Byte type b d typed gives told =
     as_bound g top es (ok_same (type_of_values to) type typed) refl (record {
       range = told.range;
-      is = of_values g top es to d told.range (told.is ∙ ap ends (passed_ok (is_within (ends b) (type_range to)) OUT_OF_RANGE b d gives).1);
+      is = of_values g top es to d told.range (told.is
+          ∙ ap ends (passed_ok (is_within (ends b) (type_range to)) OUT_OF_RANGE b d gives).1);
       ranged = told.ranged;
       tells = told.tells;
     })
@@ -598,7 +611,8 @@ module _ (g : Scene) (top : ℕ) (es : List Entry) (scope : IsScope g top es) wh
     term_told : (x : Term) (type : ExprType) (d : Bound) → has_words_in x ≡ true → type_of_term es x ≡ Ok type
         → bound_of_term es x ≡ Ok d → TermTold g top es x type d
     term_told (Number value) type d words typed is =
-        number_literal value type d (is_word_out value words) (ok_same types.Int type typed) (ok_same (Exactly value) d is)
+        number_literal value type d (is_word_out value words) (ok_same types.Int type typed)
+        (ok_same (Exactly value) d is)
     term_told (Byte byte) type d words typed is =
         let within = byte_in_range byte words in
         let low = within.from_lo in

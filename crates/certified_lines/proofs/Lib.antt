@@ -17,3 +17,6 @@ pub mod Fronts
 pub mod Elements
 pub mod Expressions
 pub mod Induction
+pub mod Testing
+pub mod Conditions
+pub mod MovingWords

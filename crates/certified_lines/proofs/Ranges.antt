@@ -140,7 +140,11 @@ xor_ranges_turned r s =
 -- ---- truths
 
 pub truth_ranged : (o : Option Bool) → IsRange (truth_range o)
-truth_ranged None = record { lo_fits = omega (arith, ints); hi_fits = omega (arith, ints); ordered = omega (arith, ints) }
+truth_ranged None = record {
+  lo_fits = omega (arith, ints);
+  hi_fits = omega (arith, ints);
+  ordered = omega (arith, ints);
+}
 truth_ranged (Some true) = constant_ranged (pos 1) (omega (arith, ints))
 truth_ranged (Some false) = constant_ranged (pos 0) (omega (arith, ints))
 

@@ -12,3 +12,5 @@ pub mod OperandLaws
 pub mod ChainTells
 pub mod ElementLaws
 pub mod ExpressionLaws
+pub mod TestLaws
+pub mod MovingWords

@@ -11,7 +11,8 @@ use Rattle.rulings.specs.Reach.{constant_range}
 use Rattle.local_rules.specs.WordRules.{number_in}
 use Rattle.occam_parser.specs.declared.tree.ValueType.{ValueType}
 use Rattle.scalar_ranges.specs.declared.scope.ArrayKind.TheVariants as arrays
-use Rattle.scalar_ranges.specs.Entries.{Meaning, Constant, Scalar, Array, Channel, Channels, Procedure, Entry, type_range}
+use Rattle.scalar_ranges.specs.Entries.{Meaning, Constant, Scalar, Array, Channel, Channels, Procedure, Entry}
+use Rattle.scalar_ranges.specs.Entries.{type_range}
 use Rattle.code_pieces.specs.Pieces.{Piece}
 use Rattle.placed_code.specs.TablesInMemory.{ReadsTable}
 use Rattle.line_pieces.specs.Homes.{Home, Word, Block, Table, count_in, words_for}

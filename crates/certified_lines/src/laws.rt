@@ -11,6 +11,7 @@ ghost use Rattle.certified_lines.specs.Addresses.{SelectedBytesAreKnown, Distant
 ghost use Rattle.certified_lines.specs.Addresses.{DistantStoresAreKnown, LoadedBytesAreKnown, StoredBytesAreKnown};
 ghost use Rattle.certified_lines.specs.Instructions.{WaitingIsKnownBelow};
 ghost use Rattle.certified_lines.specs.Moving.{MovedBytesAreKnown};
+ghost use Rattle.certified_lines.specs.MovingWords.{MovedWordsAreKnown};
 ghost use Rattle.certified_lines.specs.Numbers.{ResultsLieInRanges, SumsLieInRanges, ComparisonsAreTruths};
 ghost use Rattle.certified_lines.specs.Numbers.{TurnedBitsLieInRanges, ShiftsLieInRanges, GreaterWordsAreTold};
 ghost use Rattle.certified_lines.specs.Numbers.{LesserWordsAreTold, EqualWordsAreTold, OppositesAreTold};
@@ -25,6 +26,7 @@ ghost use Rattle.certified_lines.specs.OperandLaws.{BothTell, OperationsTell, Ar
 ghost use Rattle.certified_lines.specs.OperandLaws.{PrefixesTell, FirstTwoTell, OneMoreTells};
 ghost use Rattle.certified_lines.specs.ChainTells.{TermsTell};
 ghost use Rattle.certified_lines.specs.ExpressionLaws.{ExpressionsTell};
+ghost use Rattle.certified_lines.specs.TestLaws.{ComparisonsTest, SourcesAreForgotten};
 
 /// What is known after straight pieces, and after others from there, is what is known after both.
 #[tactic(auto, using(crate::proofs::StraightRules::straight_rules_follow))]
@@ -77,6 +79,12 @@ pub fn waiting_is_told()
 #[tactic(auto, using(crate::proofs::Moving::moved_bytes_are_known))]
 pub fn moved_bytes_are_told()
     ensures { MovedBytesAreKnown }
+{}
+
+/// Words of the frame that are moved are any numbers where they come, and other words are known as before.
+#[tactic(auto, using(crate::proofs::MovingWords::moved_words_are_known))]
+pub fn moved_words_are_told()
+    ensures { MovedWordsAreKnown }
 {}
 
 /// The results of operators of numbers in ranges lie in the range of the operation.
@@ -159,4 +167,11 @@ pub fn chains_are_told()
 /// is 0, 1 or either.
 pub fn expressions_are_told()
     ensures expressions { ExpressionsTell }
+{}
+
+/// The code of a comparison of a scalar with a constant leaves a truth that narrows the word of the scalar as the condition
+/// does its range, where it holds and where it does not. Where 0 is added to what a condition leaves, that narrows no word.
+pub fn conditions_are_told()
+    ensures tests { ComparisonsTest }
+    ensures others { SourcesAreForgotten }
 {}

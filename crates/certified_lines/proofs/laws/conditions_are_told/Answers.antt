@@ -1,0 +1,8 @@
+use Rattle.certified_lines.proofs.Conditions.{comparisons_test, sources_are_forgotten}
+use Rattle.certified_lines.proofs.laws.conditions_are_told.Goals as goal
+
+pub returns-clause-tests : goal.returns-clause-tests
+returns-clause-tests c = comparisons_test
+
+pub returns-clause-others : goal.returns-clause-others
+returns-clause-others c = sources_are_forgotten
