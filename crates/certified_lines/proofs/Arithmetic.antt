@@ -1,9 +1,8 @@
 -- What the code of an operator between two numbers leaves known.
-use Rattle.std.proofs.Common.{◌≡◌, ℕ, ◌≤◌, ℤ, pos, Bool, true, false, ◌&&◌, ◌||◌, List, [], ◌∷◌, ◌++◌, Option, Some}
+use Rattle.std.proofs.Common.{◌≡◌, ℕ, ◌≤◌, ℤ, Bool, true, false, ◌&&◌, ◌||◌, List, [], ◌∷◌, ◌++◌, Option, Some}
 use Rattle.std.proofs.Common.{None}
-use Rattle.std.proofs.Common.{FitsSigned, refl, sym, ap, subst, ◌∙◌}
+use Rattle.std.proofs.Common.{FitsSigned, refl, subst, ◌∙◌}
 use Rattle.std.specs.Int.{w32}
-use Rattle.word_arithmetic.specs.Word.{checked_difference}
 use Rattle.word_arithmetic.specs.Range as ranges
 use Rattle.word_arithmetic.specs.Range.{Ends, IsRange, shift_left_range}
 use Rattle.word_arithmetic.specs.Binary.{result_range}

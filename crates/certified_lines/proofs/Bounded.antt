@@ -1,11 +1,10 @@
 -- The bounds of results are constants, or have the ranges that results have.
-use Rattle.std.proofs.Common.{◌≡◌, ℕ, ◌⊎◌, inl, inr, ℤ, pos, negsuc, ◌≤ℤ◌, Bool, true, false, ◌&&◌, cond, Option, Some}
-use Rattle.std.proofs.Common.{None, Result, Ok}
+use Rattle.std.proofs.Common.{◌≡◌, ℕ, ◌⊎◌, inl, inr, ℤ, pos, negsuc, ◌≤ℤ◌, Bool, true, false, cond, Option, Some}
+use Rattle.std.proofs.Common.{None, Ok}
 use Rattle.std.proofs.Common.{FitsSigned, refl, sym, ap, subst, ◌∙◌, arith}
-use Rattle.std.specs.Prelude.{IfSome, int_le, ◌*ℤ◌, ◌^◌, unsigned_abs, unwrap_or}
+use Rattle.std.specs.Prelude.{IfSome, ◌*ℤ◌, ◌^◌, unsigned_abs, unwrap_or}
 use Rattle.std.specs.Int.{w32}
 use Rattle.std.proofs.lemmas.Int.{ints}
-use Rattle.std.proofs.lemmas.Bool.{and_parts}
 use Rattle.std.proofs.lemmas.Option.{cond_some}
 use Rattle.word_arithmetic.specs.Word.{word_not, shifted_left, shifted_right}
 use Rattle.word_arithmetic.specs.Range as ranges
@@ -24,14 +23,14 @@ use Rattle.occam_parser.specs.declared.tree.ArithmeticChain.{ArithmeticChain}
 use Rattle.occam_parser.specs.declared.tree.ChainOperator.TheVariants as chain
 use Rattle.occam_parser.specs.declared.tree.PrefixOperator.TheVariants as prefix
 use Rattle.scalar_ranges.specs.Bounds.{Bound, Exactly, Within, ends, range_of_bound, ranges_give, gives, by_counts}
-use Rattle.scalar_ranges.specs.Bounds.{right_range, arithmetic_bound, binary_bound, chain_bound, not_bound}
+use Rattle.scalar_ranges.specs.Bounds.{right_range, arithmetic_bound, binary_bound, chain_bound}
 use Rattle.scalar_ranges.specs.Bounds.{prefix_bound}
 use Rattle.scalar_ranges.specs.Steps.{both_some}
-use Rattle.scalar_ranges.specs.Values.{operation_of, counts, shifted, pair_value}
+use Rattle.scalar_ranges.specs.Values.{operation_of, counts, shifted}
 use Rattle.scalar_ranges.proofs.Parts.{or_ok, mapped, both_are, ok_same}
 use Rattle.program_meaning.proofs.ValuesTyped.{arithmetic_word}
 use Rattle.certified_lines.specs.OperandLaws.{pair_range, chain_range, prefix_range}
-use Rattle.certified_lines.proofs.Ranges.{constant_ranged, not_ranged}
+use Rattle.certified_lines.proofs.Ranges.{constant_ranged}
 
 -- ---- a bound is a constant, or a range
 

@@ -19,7 +19,7 @@ use Rattle.occam_parser.specs.declared.tree.ChainOperator.{ChainOperator}
 use Rattle.occam_parser.specs.declared.tree.ChainOperator.TheVariants as chain
 use Rattle.occam_parser.specs.declared.tree.ArithmeticChain.TheVariants as arithmetic_chain
 use Rattle.occam_parser.specs.declared.tree.Logic.TheVariants as logic
-use Rattle.occam_parser.specs.Expressions.{Terms, Two, Then, Term}
+use Rattle.occam_parser.specs.Expressions.{Terms, Term}
 use Rattle.states.specs.State.{known}
 use Rattle.local_rules.specs.WordRules.{number_in}
 use Rattle.scalar_ranges.specs.Bounds.{bound_of_term, exact_value}

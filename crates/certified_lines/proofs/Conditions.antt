@@ -1,6 +1,6 @@
 -- What the code of conditions shows of words: a comparison of a scalar with a constant of its word, and one to which 0 is
 -- added of none.
-use Rattle.std.proofs.Common.{◌≡◌, ℕ, ◌≤◌, ℤ, pos, Bool, true, false, cond, List, [], ◌∷◌, ◌++◌, Option, Some, None}
+use Rattle.std.proofs.Common.{◌≡◌, ℕ, ℤ, pos, Bool, true, false, cond, List, [], ◌∷◌, ◌++◌, Option, Some, None}
 use Rattle.std.proofs.Common.{Result, Ok, Err, refl, sym, ap, subst, ◌∙◌, arith, FitsSigned}
 use Rattle.std.specs.Prelude.{◌+ℤ◌, option_map}
 use Rattle.std.specs.Int.{w32}
@@ -14,44 +14,40 @@ use Rattle.word_arithmetic.specs.Binary.{result_range}
 use Rattle.word_arithmetic.specs.declared.binary.Binary.TheVariants as binary
 use Rattle.word_arithmetic.specs.declared.compare.Comparison.{Comparison}
 use Rattle.word_arithmetic.proofs.WordLaws.{is_word_in}
-use Rattle.prefix_decoder.specs.declared.function.Fun.TheVariants as fun
 use Rattle.occam_parser.specs.declared.tree.ValueType.{ValueType}
-use Rattle.occam_parser.specs.declared.tree.ValueType.TheVariants as value_type
 use Rattle.occam_parser.specs.declared.tree.PairOperator.TheVariants as pair
 use Rattle.occam_parser.specs.Expressions.{Expression, Alone, Prefixed, Paired, Chained, Term}
 use Rattle.occam_parser.specs.Expressions.{Number, Byte, Truth, MostPos, MostNeg, Named, Element, Bracketed, Converted}
-use Rattle.occam_parser.specs.Words.{has_words, has_words_in}
+use Rattle.occam_parser.specs.Words.{has_words_in}
 use Rattle.states.specs.State.{Facts, known}
 use Rattle.local_rules.specs.WordRules.{number_in, narrowed_words, same}
 use Rattle.scalar_ranges.specs.declared.scope.ScalarKind.{ScalarKind}
 use Rattle.scalar_ranges.specs.declared.scope.ScalarKind.TheVariants as kinds
 use Rattle.scalar_ranges.specs.declared.types.ExprType.{ExprType}
-use Rattle.scalar_ranges.specs.declared.types.ExprType.TheVariants as types
 use Rattle.scalar_ranges.specs.declared.bounds.TheConstants.{OUT_OF_RANGE, OUTSIDE}
 use Rattle.scalar_ranges.specs.Bounds.{Bound, Exactly, Within, ends, pair_bound, named_bound, element_bound}
 use Rattle.scalar_ranges.specs.Bounds.{converted_bound, is_subscript, bound_of, bound_of_term, exact_value}
 use Rattle.scalar_ranges.specs.Entries.{Meaning, Constant, Scalar, Array, Channel, Channels, Procedure, Entry}
 use Rattle.scalar_ranges.specs.Entries.{meaning_in, type_range}
-use Rattle.scalar_ranges.specs.Narrowing.{Tested, tested, test_of, first_of, turned, as_holds, is_narrowed, constant_in}
+use Rattle.scalar_ranges.specs.Narrowing.{Tested, tested, first_of, turned, as_holds, is_narrowed, constant_in}
 use Rattle.scalar_ranges.specs.Narrowing.{are_alike}
-use Rattle.scalar_ranges.specs.Types.{type_of, type_of_term, named_type, pair_type}
+use Rattle.scalar_ranges.specs.Types.{type_of_term, named_type, pair_type}
 use Rattle.scalar_ranges.proofs.Parts.{both_ok, then_ok, passed_ok, ok_same}
-use Rattle.code_pieces.specs.Pieces.{Piece, Direct, loads, constant, word_after}
+use Rattle.code_pieces.specs.Pieces.{Piece, loads, constant, word_after}
 use Rattle.line_pieces.specs.Homes.{Home, Word, home_of}
 use Rattle.line_pieces.specs.Expressions.{Operand, beside, constant_or, expression_code, term_code, is_leaf_term}
 use Rattle.line_pieces.specs.Expressions.{is_small_term, is_byte_reference, is_pushed, scalar_code, pushed, pushes_of}
 use Rattle.line_pieces.specs.Expressions.{pair_code, prefix_code, terms_code}
 use Rattle.scalar_ranges.specs.Fronts.{front_in}
-use Rattle.certified_lines.specs.StraightRules.{Setting, Told, FallOn}
-use Rattle.certified_lines.specs.Instructions.{IsCounted, MayRead, with_a}
+use Rattle.certified_lines.specs.StraightRules.{Told}
+use Rattle.certified_lines.specs.Instructions.{IsCounted, with_a}
 use Rattle.certified_lines.specs.Scopes.{Scene, IsNumber, AreKnownThere, HoldsScope, IsHousedThere, IsScope}
-use Rattle.certified_lines.specs.Telling.{PushedFact, AreAllowed, IsFree}
-use Rattle.certified_lines.specs.TestLaws.{OneWordIs, where_it, Tests, ComparisonsTest, TellsNothing}
+use Rattle.certified_lines.specs.TestLaws.{OneWordIs, where_it, Tests, ComparisonsTest}
 use Rattle.certified_lines.specs.TestLaws.{SourcesAreForgotten}
 use Rattle.certified_lines.proofs.StraightRules.{fall_both}
 use Rattle.certified_lines.proofs.Numbers.{sums_lie_in_ranges}
 use Rattle.certified_lines.proofs.Telling.{name_has, few_counted}
-use Rattle.certified_lines.proofs.Testing.{tests, IsTestOf, Shown, ShowsIt, on_left, on_right, narrows_by}
+use Rattle.certified_lines.proofs.Testing.{tests, ShowsIt, on_left, on_right, narrows_by}
 use Rattle.certified_lines.proofs.Testing.{scalar_operand}
 use Rattle.certified_lines.proofs.Testing.{constant_operand}
 use Rattle.certified_lines.proofs.Expressions.{exact_fits}

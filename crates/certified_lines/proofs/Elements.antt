@@ -1,35 +1,30 @@
 -- What the code of elements leaves known.
-use Rattle.std.proofs.Common.{◌≡◌, ℕ, zero, suc, ◌+◌, ◌*◌, ◌/◌, ◌%◌, ◌-◌, ◌==◌, ◌<◌, ◌≤◌, ℤ, pos, negsuc, ◌+ℤ◌, ◌-ℤ◌}
+use Rattle.std.proofs.Common.{◌≡◌, ℕ, zero, suc, ◌+◌, ◌*◌, ◌/◌, ◌%◌, ◌-◌, ◌<◌, ◌≤◌, ℤ, pos, negsuc, ◌+ℤ◌, ◌-ℤ◌}
 use Rattle.std.proofs.Common.{◌*ℤ◌}
-use Rattle.std.proofs.Common.{◌≤ℤ◌, ◌<ℤ◌, nat_abs, Bool, true, false, cond, not, ◌&&◌, nat_eq, List, [], ◌∷◌, ◌++◌}
+use Rattle.std.proofs.Common.{◌≤ℤ◌, ◌<ℤ◌, nat_abs, Bool, true, false, cond, not, nat_eq, List, [], ◌∷◌, ◌++◌}
 use Rattle.std.proofs.Common.{length}
-use Rattle.std.proofs.Common.{Option, Some, None, Result, Ok, Err, refl, sym, ap, subst, ◌∙◌, arith, append_assoc}
-use Rattle.std.specs.Prelude.{int_le}
+use Rattle.std.proofs.Common.{Option, Some, Ok, Err, refl, sym, ap, subst, ◌∙◌, arith, append_assoc}
 use Rattle.std.proofs.lemmas.Int.{ints}
 use Rattle.std.proofs.lemmas.Bool.{and_from, eqb-true}
 use Rattle.small_laws.proofs.Comparisons.{le-int_le}
 use Rattle.word_arithmetic.specs.Range as ranges
 use Rattle.word_arithmetic.specs.Range.{Ends, IsRange, full, bytes}
-use Rattle.module_format.specs.Rows.{Fact}
-use Rattle.module_format.specs.declared.limits.TheConstants.{MAX_DATA_WORDS, MAX_CONSTANTS}
+use Rattle.module_format.specs.declared.limits.TheConstants.{MAX_DATA_WORDS}
 use Rattle.module_format.specs.declared.fact.Fact.TheVariants.{Unknown, Pointer, Number}
 use Rattle.module_format.specs.declared.fact.Region.{Region}
 use Rattle.module_format.specs.declared.fact.Region.TheVariants as regions
 use Rattle.module_format.specs.declared.fact.Step.{Step}
 use Rattle.module_format.specs.declared.fact.Step.TheVariants.{Byte, Word as WordStep}
-use Rattle.module_format.specs.Contents.{Contents}
 use Rattle.certificate.specs.Rights.{may_read_word}
 use Rattle.certificate.specs.Words.{all_words}
 use Rattle.states.specs.declared.known.Known.{Known}
 use Rattle.states.specs.declared.known.WordFact.{WordFact}
-use Rattle.states.specs.declared.rule.Rule.{Rule}
 use Rattle.states.specs.declared.rule.Rule.TheVariants as rules
 use Rattle.states.specs.declared.span.Together.{Together}
 use Rattle.states.specs.Spans.{together}
-use Rattle.states.specs.State.{State, Facts, known}
+use Rattle.states.specs.State.{Facts, known}
 use Rattle.rulings.specs.declared.pointers.Pointed.{Pointed}
-use Rattle.rulings.specs.declared.pointers.Bounds.{Bounds}
-use Rattle.rulings.specs.Reach.{word_of_byte, words_touched, may_read_bytes, region_range, constant_range, lie_in}
+use Rattle.rulings.specs.Reach.{word_of_byte, words_touched, may_read_bytes, region_range}
 use Rattle.rulings.specs.Pointers.{are_near, is_near, pointer_of, bounds_of, word_read, byte_read}
 use Rattle.local_rules.specs.MemoryRules.{near_fact, words_at, words_behind, element_of, step_after}
 use Rattle.local_rules.specs.WordRules.{number_in, word_as_known, known_constant}
@@ -43,11 +38,10 @@ use Rattle.code_pieces.specs.Pieces.{Piece, TableAddress, operates, loads, point
 use Rattle.placed_code.specs.TablesInMemory.{ReadsTable}
 use Rattle.line_pieces.specs.Homes as home
 use Rattle.line_pieces.specs.Homes.{Home, Word, words_for}
-use Rattle.line_pieces.specs.Expressions.{Subscript, or_zero, before_offset, loads_at}
-use Rattle.certified_lines.specs.StraightRules.{Setting, Told, FallOn, with_pushed, table_fact, table_known}
-use Rattle.certified_lines.specs.Instructions.{MayRead, word_pointer, with_a, with_result, PieceFalls}
-use Rattle.certified_lines.specs.Addresses.{told_state, MayReadBytes, LeadsTo}
-use Rattle.certified_lines.specs.Arrays.{AreNumbersIn, last_byte}
+use Rattle.line_pieces.specs.Expressions.{or_zero, before_offset, loads_at}
+use Rattle.certified_lines.specs.StraightRules.{Setting, Told, FallOn, with_pushed}
+use Rattle.certified_lines.specs.Instructions.{MayRead, word_pointer, with_a, with_result}
+use Rattle.certified_lines.specs.Addresses.{told_state, MayReadBytes}
 use Rattle.certified_lines.specs.Scopes.{Scene, IsNumber, AreKnownThere, HoldsScope, MayReadAll, HasTable}
 use Rattle.certified_lines.specs.Scopes.{IsHousedThere, IsScope}
 use Rattle.certified_lines.specs.Telling.{StayBefore, PushedFact}
@@ -146,6 +140,18 @@ read_behind g ps qs t leaf small r q before p read = record {
   a = read.a;
   stay = subst (λ (f : Facts). StayBefore t before.frame f) (sym read.frame) p.stay;
   below = λ is. ap (λ (k : Known). k.fact) read.b ∙ p.below is;
+  alone = λ is. absurd (cc is);
+}
+
+-- without one
+read_alone : (g : Setting) (ps : List Piece) (t : ℕ) (small : Bool) (q : Ends) (before : Told)
+    → Read g ps q before before.stack.a → PushedFact g ps t false small q before
+read_alone g ps t small q before read = record {
+  after = read.after;
+  falls = read.falls;
+  a = read.a;
+  stay = λ k less whole. ap (λ (f : Facts). f (pos k)) read.frame;
+  below = λ is. ap (λ (k : Known). k.fact) read.b;
   alone = λ is. absurd (cc is);
 }
 
@@ -442,14 +448,13 @@ known_items_tell g top t c size es name type values range s small scope array re
     let one = word_behind g.setting regions.Constants (g.setting.tables values) size (omega (arith, lies, few))
     (omega (arith, lies, few, long)) range told c inside
     (table_words g.setting values range c 0 told table.0 (omega (arith, inside, long))) in
-    record {
+    read_alone g.setting (TableAddress values ∷ loads_at (pos c) ∷ []) t small range told (record {
       after = one.after;
       falls = fall_both (tables_are_known g.setting values told) one.falls;
       a = one.a;
-      stay = λ k less whole. ap (λ (f : Facts). f (pos k)) one.frame;
-      below = λ is. ap (λ (k : Known). k.fact) one.b;
-      alone = λ is. absurd (cc is);
-    }
+      frame = one.frame;
+      b = one.b;
+    })
 
 pub items_tell : ItemsTell
 items_tell g top t size es name type values range r s leaf small scope low array reads select tells told holds =
@@ -615,15 +620,14 @@ known_byte_by true g w count n t small told test inside array =
     WordStep refl (omega arith) (omega arith) (omega (arith, inside)) refl in
     subst (λ (a : ℕ). PushedFact g.setting (points a ∷ operates LOAD_BYTE ∷ []) t false small bytes told)
     (sym (word_is w (n / 4) here))
-    (record {
+    (read_alone g.setting (points word ∷ operates LOAD_BYTE ∷ []) t small bytes told (record {
       after = one.after;
       falls = fall_both (addresses_are_known g.setting word told (few_counted word here) (omega (arith, here)))
           one.falls;
       a = one.a;
-      stay = λ k less whole. ap (λ (f : Facts). f (pos k)) one.frame;
-      below = λ is. ap (λ (k : Known). k.fact) one.b;
-      alone = λ is. absurd (cc is);
-    })
+      frame = one.frame;
+      b = one.b;
+    }))
 known_byte_by false g w count n t small told test inside array =
     let few = array.few in
     let word = w + n / 4 in
@@ -636,16 +640,16 @@ known_byte_by false g w count n t small told test inside array =
     (omega arith) (omega arith) (omega (arith, inside)) in
     subst (λ (a : ℕ). PushedFact g.setting (constant (pos byte) ∷ points a ∷ operates BYTE_SUBSCRIPT
     ∷ operates LOAD_BYTE ∷ []) t false small bytes told) (sym (word_is w (n / 4) here))
-    (record {
+    (read_alone g.setting
+    (constant (pos byte) ∷ points word ∷ operates BYTE_SUBSCRIPT ∷ operates LOAD_BYTE ∷ []) t small bytes told (record {
       after = one.after;
       falls = fall_both (constants_are_known g.setting (pos byte) told)
           (fall_both (addresses_are_known g.setting word first (few_counted word here) (omega (arith, here)))
           one.falls);
       a = one.a;
-      stay = λ k less whole. ap (λ (f : Facts). f (pos k)) one.frame;
-      below = λ is. ap (λ (k : Known). k.fact) one.b;
-      alone = λ is. absurd (cc is);
-    })
+      frame = one.frame;
+      b = one.b;
+    }))
 
 pub known_bytes_tell : KnownBytesTell
 known_bytes_tell g top t w c size es name range s small scope array less told holds =

@@ -1,17 +1,9 @@
 -- What the code of whole expressions leaves known.
-use Rattle.std.proofs.Common.{◌≡◌, ℕ, ◌+◌, ◌≤◌, inl, inr, ℤ, pos, negsuc, ◌+ℤ◌, ◌≤ℤ◌, ◌<ℤ◌, Bool, true, false, ◌&&◌}
-use Rattle.std.proofs.Common.{cond}
+use Rattle.std.proofs.Common.{◌≡◌, ℕ, ◌≤◌, inl, inr, ℤ, Bool, false, ◌&&◌}
 use Rattle.std.proofs.Common.{List, [], ◌∷◌, ◌++◌, Option, Some, None, Result, Ok, refl, sym, ap, subst, ◌∙◌, arith}
 use Rattle.std.proofs.Common.{FitsSigned}
-use Rattle.std.specs.Prelude.{int_le, int_lt, unsigned_abs}
 use Rattle.std.specs.Int.{w32}
-use Rattle.std.specs.Ordering.{int_eq}
-use Rattle.std.proofs.lemmas.Int.{ints}
-use Rattle.std.proofs.lemmas.Bool.{and_parts}
 use Rattle.std.proofs.lemmas.Option.{same_Some}
-use Rattle.std.proofs.lemmas.Bool.Decides.{Decides-int_eq}
-use Rattle.word_arithmetic.specs.Word.{greatest_word, least_word}
-use Rattle.word_arithmetic.proofs.WordLaws.{is_word_out}
 use Rattle.word_arithmetic.specs.Range as ranges
 use Rattle.word_arithmetic.specs.Range.{Ends, IsRange, full, bytes, truths, not_range}
 use Rattle.occam_parser.specs.declared.tree.ValueType.{ValueType}
@@ -27,42 +19,34 @@ use Rattle.occam_parser.specs.declared.tree.ChainOperator.{ChainOperator}
 use Rattle.occam_parser.specs.declared.tree.ChainOperator.TheVariants as chain
 use Rattle.occam_parser.specs.declared.tree.Logic.{Logic}
 use Rattle.occam_parser.specs.declared.tree.Logic.TheVariants as logic
-use Rattle.occam_parser.specs.Expressions.{Expression, Alone, Prefixed, Paired, Chained, Terms, Two, Then, Term}
-use Rattle.occam_parser.specs.Expressions.{Number, Byte, Truth, MostPos, MostNeg, Named, Element, Bracketed, Converted}
-use Rattle.occam_parser.specs.Words.{has_words, have_words, has_words_in}
-use Rattle.program_meaning.proofs.ValuesTyped.{byte_in_range}
+use Rattle.occam_parser.specs.Expressions.{Alone, Prefixed, Paired, Chained, Terms, Two, Then, Term}
 use Rattle.scalar_ranges.specs.declared.types.ExprType.{ExprType}
 use Rattle.scalar_ranges.specs.declared.types.ExprType.TheVariants as types
 use Rattle.scalar_ranges.specs.Bounds.{Bound, Exactly, Within, ends, arithmetic_bound, pair_bound, prefix_bound}
-use Rattle.scalar_ranges.specs.Bounds.{chain_bound, named_bound, element_bound, converted_bound, is_subscript}
-use Rattle.scalar_ranges.specs.Bounds.{bound_of, bound_of_term, bound_of_terms, exact_value, range_found}
-use Rattle.scalar_ranges.specs.Entries.{Meaning, Constant, Scalar, Array, Channel, Channels, Procedure, Entry}
-use Rattle.scalar_ranges.specs.Entries.{meaning_in, type_range}
-use Rattle.scalar_ranges.specs.Types.{type_of, type_of_term, type_of_terms, type_of_values, named_type, element_type}
-use Rattle.scalar_ranges.specs.Types.{subscripted, prefix_type, pair_type, chain_type, converted_type}
+use Rattle.scalar_ranges.specs.Bounds.{chain_bound}
+use Rattle.scalar_ranges.specs.Bounds.{bound_of, bound_of_term, bound_of_terms, exact_value}
+use Rattle.scalar_ranges.specs.Entries.{Entry}
+use Rattle.scalar_ranges.specs.Types.{type_of_values}
+use Rattle.scalar_ranges.specs.Types.{prefix_type, pair_type, chain_type}
 use Rattle.scalar_ranges.specs.Fronts.{Front, count_of, front_in}
-use Rattle.scalar_ranges.proofs.Parts.{both_ok, then_ok, passed_ok, ok_same}
+use Rattle.scalar_ranges.proofs.Parts.{ok_same}
 use Rattle.code_pieces.specs.Pieces.{Piece, constant, word_after}
-use Rattle.line_pieces.specs.Homes as home
-use Rattle.line_pieces.specs.Homes.{Home, Word, home_of}
-use Rattle.line_pieces.specs.Expressions.{Operand, beside, constant_or, is_known, expression_code, term_code}
+use Rattle.line_pieces.specs.Expressions.{Operand, beside, constant_or, is_known, term_code}
 use Rattle.line_pieces.specs.Expressions.{terms_code}
-use Rattle.line_pieces.specs.Expressions.{is_leaf, is_leaf_term, is_small, is_small_term, are_small, pushed, pushes_of}
-use Rattle.line_pieces.specs.Expressions.{pair_code, prefix_code, covered, truth, scalar_code, is_byte_reference}
-use Rattle.line_pieces.specs.Expressions.{is_pushed}
-use Rattle.certified_lines.specs.StraightRules.{Told}
-use Rattle.certified_lines.specs.Scopes.{Scene, HoldsScope, IsHousedThere, IsScope}
-use Rattle.certified_lines.specs.Telling.{PushedFact, Tells, IsFree, OperandTells, truth_range, AreAllowed}
+use Rattle.line_pieces.specs.Expressions.{is_leaf_term, is_small, is_small_term, are_small, pushed, pushes_of}
+use Rattle.line_pieces.specs.Expressions.{pair_code, prefix_code, covered}
+use Rattle.certified_lines.specs.Scopes.{Scene, IsScope}
+use Rattle.certified_lines.specs.Telling.{Tells, IsFree, OperandTells, truth_range}
 use Rattle.certified_lines.specs.OperandLaws.{IsOnly, pair_range, prefix_range, chain_range}
 use Rattle.certified_lines.specs.ChainTells.{TermTells, IsFrontOf, TermsRange, two, then_one, front_or}
-use Rattle.certified_lines.specs.ExpressionLaws.{IsRangeOf, IsTold, ExpressionTells, ExpressionsTell}
-use Rattle.certified_lines.proofs.Telling.{constants_tell, scalars_tell, name_has}
+use Rattle.certified_lines.specs.ExpressionLaws.{IsRangeOf, IsTold, ExpressionTells}
+use Rattle.certified_lines.proofs.Telling.{constants_tell}
 use Rattle.certified_lines.proofs.Ranges.{constant_ranged, not_ranged, truth_ranged, both_truths, either_truth}
-use Rattle.certified_lines.proofs.Operands.{next_counted, next_free, allowed_first, allowed_rest}
+use Rattle.certified_lines.proofs.Operands.{next_counted, next_free, allowed_first}
 use Rattle.certified_lines.proofs.Arithmetic.{arithmetic_tells}
 use Rattle.certified_lines.proofs.Comparing.{comparisons_tell, prefixes_tell, truths_ranged}
 use Rattle.certified_lines.proofs.Chains.{terms_tell}
-use Rattle.certified_lines.proofs.Bounded.{IsEither, IsExact, IsWithin, arithmetic_is, chain_is, negate_is, bit_not_is}
+use Rattle.certified_lines.proofs.Bounded.{IsEither, IsExact, arithmetic_is, chain_is, negate_is, bit_not_is}
 use Rattle.certified_lines.proofs.Bounded.{pair_ranged, negate_ranged, chain_ranged}
 use Rattle.certified_lines.proofs.Fronts.{FrontFits, fits_here, fronts_fit, uncovered}
 

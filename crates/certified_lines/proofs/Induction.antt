@@ -1,10 +1,10 @@
 -- What the code of names, of elements and so of every expression leaves known.
-use Rattle.std.proofs.Common.{◌≡◌, ℕ, ◌+◌, ◌≤◌, ◌<◌, inl, inr, ℤ, pos, negsuc, ◌+ℤ◌, ◌≤ℤ◌, ◌<ℤ◌, Bool, true, false}
+use Rattle.std.proofs.Common.{◌≡◌, ℕ, ◌≤◌, ℤ, pos, ◌+ℤ◌, ◌≤ℤ◌, ◌<ℤ◌, Bool, true, false}
 use Rattle.std.proofs.Common.{◌&&◌}
 use Rattle.std.proofs.Common.{cond, List, [], ◌∷◌, ◌++◌, Option, Some, None, Result, Ok, refl, sym, ap, subst, ◌∙◌}
 use Rattle.std.proofs.Common.{arith}
 use Rattle.std.proofs.Common.{FitsSigned}
-use Rattle.std.specs.Prelude.{int_le, int_lt, unsigned_abs, option_map}
+use Rattle.std.specs.Prelude.{int_le, int_lt, option_map}
 use Rattle.std.specs.Int.{w32}
 use Rattle.std.specs.Ordering.{int_eq}
 use Rattle.std.proofs.lemmas.Int.{ints}
@@ -43,29 +43,28 @@ use Rattle.scalar_ranges.specs.declared.bounds.TheConstants.{OUT_OF_RANGE, OUTSI
 use Rattle.scalar_ranges.proofs.Parts.{both_ok, then_ok, passed_ok, ok_same}
 use Rattle.code_pieces.specs.Pieces.{Piece, constant, TableAddress, operates}
 use Rattle.code_pieces.specs.declared.operations.TheConstants.{LOAD_BYTE, WORD_SUBSCRIPT}
-use Rattle.placed_code.specs.TablesInMemory.{ReadsTable}
 use Rattle.line_pieces.specs.Homes as home
 use Rattle.line_pieces.specs.Homes.{Home, Nowhere, Word, Block, Link, Passed, home_of}
-use Rattle.line_pieces.specs.Expressions.{constant_or, expression_code, term_code, first_code, is_leaf, is_leaf_term}
+use Rattle.line_pieces.specs.Expressions.{expression_code, term_code, first_code, is_leaf, is_leaf_term}
 use Rattle.line_pieces.specs.Expressions.{is_small}
-use Rattle.line_pieces.specs.Expressions.{is_small_term, truth, scalar_code, is_byte_reference, is_pushed, single}
+use Rattle.line_pieces.specs.Expressions.{is_small_term, scalar_code, is_byte_reference, is_pushed, single}
 use Rattle.line_pieces.specs.Expressions.{Subscript}
 use Rattle.line_pieces.specs.Expressions.{offset_of, offset_or_none, added_by, greatest_offset, without, or_zero}
 use Rattle.line_pieces.specs.Expressions.{before_offset, subscript_of, element_code, element_of_words, element_of_table}
 use Rattle.line_pieces.specs.Expressions.{loads_at, subscript_code}
 use Rattle.certified_lines.specs.StraightRules.{Told}
-use Rattle.certified_lines.specs.Scopes.{Scene, HoldsScope, IsHousedThere, IsScope}
-use Rattle.certified_lines.specs.Telling.{PushedFact, Tells, IsFree, truth_range, AreAllowed}
+use Rattle.certified_lines.specs.Scopes.{Scene, IsHousedThere, IsScope}
+use Rattle.certified_lines.specs.Telling.{PushedFact, Tells, IsFree}
 use Rattle.certified_lines.specs.ElementLaws.{IsArray, Select}
-use Rattle.certified_lines.specs.ExpressionLaws.{IsRangeOf, IsTold, ExpressionTells, ExpressionsTell}
+use Rattle.certified_lines.specs.ExpressionLaws.{IsTold, ExpressionTells, ExpressionsTell}
 use Rattle.certified_lines.proofs.Telling.{constants_tell, scalars_tell, name_has}
-use Rattle.certified_lines.proofs.Ranges.{constant_ranged, truth_ranged}
+use Rattle.certified_lines.proofs.Ranges.{truth_ranged}
 use Rattle.certified_lines.proofs.Operands.{allowed_first, allowed_rest}
 use Rattle.certified_lines.proofs.Bounded.{ranges_give_is, full_ranged}
 use Rattle.certified_lines.proofs.Elements.{known_words_tell, words_tell, known_bytes_tell, bytes_tell}
 use Rattle.certified_lines.proofs.Elements.{known_items_tell}
 use Rattle.certified_lines.proofs.Elements.{items_tell, as_natural}
-use Rattle.certified_lines.proofs.Expressions.{TermTold, constant_told, literal_told, as_bound, of_values, truths_told}
+use Rattle.certified_lines.proofs.Expressions.{TermTold, constant_told, literal_told, as_bound, of_values}
 use Rattle.certified_lines.proofs.Expressions.{alone_told, prefixed_told, paired_told, chained_told, TermsTold}
 use Rattle.certified_lines.proofs.Expressions.{two_told}
 use Rattle.certified_lines.proofs.Expressions.{more_told, exact_is}

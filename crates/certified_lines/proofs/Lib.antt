@@ -20,3 +20,4 @@ pub mod Induction
 pub mod Testing
 pub mod Conditions
 pub mod MovingWords
+pub mod Sources

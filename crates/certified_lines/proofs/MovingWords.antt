@@ -1,14 +1,13 @@
 -- What is known after words of the frame are moved.
 use Rattle.std.proofs.Common.{◌≡◌, ℕ, zero, suc, ◌+◌, ◌*◌, ◌/◌, ◌<◌, ◌≤◌, ◌⊎◌, inl, inr, ℤ, pos, negsuc, ◌+ℤ◌, ◌-ℤ◌}
-use Rattle.std.proofs.Common.{◌≤ℤ◌}
-use Rattle.std.proofs.Common.{Bool, true, false, cond, not, ◌&&◌, ◌||◌, nat_abs, List, [], ◌∷◌, Ok, Err, refl, sym, ap}
+use Rattle.std.proofs.Common.{Bool, true, false, cond, not, ◌&&◌, ◌||◌, [], ◌∷◌, Ok, Err, refl, sym, ap}
 use Rattle.std.proofs.Common.{subst, ◌∙◌, arith}
 use Rattle.std.specs.Prelude.{int_le, int_lt, nat_lt}
 use Rattle.std.proofs.lemmas.Bool.{and_from, lt-ltb}
 use Rattle.std.proofs.lemmas.Int.{ints}
 use Rattle.small_laws.proofs.Comparisons.{le-int_le, lt-int_lt}
 use Rattle.word_arithmetic.specs.Range.{Ends, full}
-use Rattle.module_format.specs.declared.fact.Fact.TheVariants.{Unknown, Number, Pointer}
+use Rattle.module_format.specs.declared.fact.Fact.TheVariants.{Unknown, Number}
 use Rattle.module_format.specs.declared.fact.Region.TheVariants as regions
 use Rattle.module_format.specs.declared.fact.Step.TheVariants.{Word as WordStep}
 use Rattle.certificate.specs.Rights.{may_read_word, may_write_word}
@@ -16,25 +15,24 @@ use Rattle.certificate.specs.Words.{all_words}
 use Rattle.states.specs.declared.known.WordFact.{WordFact}
 use Rattle.states.specs.declared.known.WordFact.TheVariants.{Alone}
 use Rattle.states.specs.declared.rule.Rule.TheVariants as rules
-use Rattle.states.specs.declared.span.Leaving.{Leaving}
 use Rattle.states.specs.declared.span.Leaving.TheVariants.{Become}
 use Rattle.states.specs.Spans.{together, with_one, is_in_span, on_span, after_change}
-use Rattle.states.specs.State.{State, Facts, Change, known, changed, is_parted, by_itself, is_same_number}
+use Rattle.states.specs.State.{State, Facts, known, changed, is_parted, is_same_number}
 use Rattle.rulings.specs.declared.pointers.Pointed.{Pointed}
 use Rattle.rulings.specs.Reach.{word_of_byte, words_touched, may_read_bytes, may_write_bytes}
-use Rattle.rulings.specs.Pointers.{are_near, constant_of, exact_pointer, takes_any, byte_read, number_within}
+use Rattle.rulings.specs.Pointers.{constant_of, exact_pointer, takes_any, byte_read, number_within}
 use Rattle.rulings.specs.Pointers.{stored_byte}
 use Rattle.rulings.specs.Pointers.{is_number_in, leaves_words}
 use Rattle.rulings.specs.Filling.{are_numbers, filled, become_numbers, word_behind, words_within}
-use Rattle.local_rules.specs.MoveRules.{is_movable, may_come, are_blocks_apart}
+use Rattle.local_rules.specs.MoveRules.{is_movable, may_come}
 use Rattle.local_rules.specs.WordRules.{number_in, known_constant}
 use Rattle.code_pieces.specs.declared.operations.TheConstants.{MOVE}
-use Rattle.code_pieces.specs.Pieces.{Piece, moves, points, constant, operates, counted}
+use Rattle.code_pieces.specs.Pieces.{points, constant, operates, counted}
 use Rattle.certified_lines.specs.StraightRules.{Setting, Told, FallOn, with_pushed}
 use Rattle.certified_lines.specs.Instructions.{IsCounted, word_pointer}
 use Rattle.certified_lines.specs.Addresses.{told_state, MayReadBytes, MayWriteBytes}
 use Rattle.certified_lines.specs.Arrays.{last_byte}
-use Rattle.certified_lines.specs.Moving.{MayMove, moved}
+use Rattle.certified_lines.specs.Moving.{moved}
 use Rattle.certified_lines.specs.MovingWords.{MayMoveWords, MovedWords, MovedWordsAreKnown}
 use Rattle.certified_lines.specs.Scopes.{IsNumber}
 use Rattle.certified_lines.proofs.StraightRules.{fall_both}

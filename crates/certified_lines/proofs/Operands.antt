@@ -1,7 +1,6 @@
 -- What the code of two operands leaves known, and that of an operation of both.
 use Rattle.std.proofs.Common.{◌≡◌, ℕ, ◌+◌, ◌<◌, ◌≤◌, inl, inr, ℤ, pos, ◌+ℤ◌, ◌-ℤ◌, Bool, true, false, ◌&&◌, ◌||◌, cond}
-use Rattle.std.proofs.Common.{List, [], ◌∷◌, ◌++◌, Option, Some, refl, sym, ap, subst, ◌∙◌, arith}
-use Rattle.std.specs.Prelude.{int_le}
+use Rattle.std.proofs.Common.{List, [], ◌∷◌, ◌++◌, Some, refl, sym, ap, subst, ◌∙◌, arith}
 use Rattle.std.proofs.lemmas.Int.{ints}
 use Rattle.word_arithmetic.specs.Range.{Ends, IsRange}
 use Rattle.word_arithmetic.specs.Binary.{result_range}
@@ -21,7 +20,7 @@ use Rattle.scalar_ranges.specs.Entries.{Entry}
 use Rattle.code_pieces.specs.Pieces.{Piece, operates, stores, counted, word_after}
 use Rattle.line_pieces.specs.Expressions.{both, comes_last, back, exchanged}
 use Rattle.certified_lines.specs.StraightRules.{Setting, Told, FallOn, done, with_pushed}
-use Rattle.certified_lines.specs.Instructions.{IsCounted, MayRead, MayWrite, is_told, with_word, without_a, with_a}
+use Rattle.certified_lines.specs.Instructions.{IsCounted, MayRead, MayWrite, is_told, with_word, without_a}
 use Rattle.certified_lines.specs.Instructions.{with_result}
 use Rattle.certified_lines.specs.Numbers.{IsNumberIn}
 use Rattle.certified_lines.specs.Scopes.{Scene, HoldsScope, IsScope, IsNumber}

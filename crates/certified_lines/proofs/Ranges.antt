@@ -1,20 +1,19 @@
 -- The ranges of results: in either order, of constants that are added, and of truths.
-use Rattle.std.proofs.Common.{◌≡◌, ℕ, ℤ, pos, negsuc, Bool, true, false, ◌&&◌, cond, Option, Some, None, refl, sym, ap}
+use Rattle.std.proofs.Common.{◌≡◌, ℤ, pos, Bool, true, false, ◌&&◌, cond, Option, Some, None, refl, ap}
 use Rattle.std.proofs.Common.{subst, ◌∙◌, arith, FitsSigned}
-use Rattle.std.specs.Prelude.{◌+ℤ◌, ◌-ℤ◌, ◌*ℤ◌, unwrap_or}
+use Rattle.std.specs.Prelude.{◌+ℤ◌, ◌-ℤ◌, ◌*ℤ◌}
 use Rattle.std.specs.Int.{w32, int_min, int_max, cast_unsigned, cast_signed}
 use Rattle.std.proofs.Math.IntN.{+ℤ_comm, *ℤ_comm}
 use Rattle.std.proofs.lemmas.Int.{ints, clamps}
 use Rattle.std.proofs.lemmas.Nat as nat
 use lib.Count.{count_leading_zeros}
-use Rattle.word_arithmetic.specs.Word.{is_word, checked_difference, word_not, word_and, word_or, word_xor, truth}
+use Rattle.word_arithmetic.specs.Word.{is_word, checked_difference, word_not, word_and, word_or, word_xor}
 use Rattle.word_arithmetic.specs.Range as ranges
 use Rattle.word_arithmetic.specs.Range.{Ends, IsRange, truths, full, fitting, corners, product_range, bits_range}
 use Rattle.word_arithmetic.specs.Range.{is_constant, is_not_negative, zero_to, all_ones, not_range, and_range, or_range}
 use Rattle.word_arithmetic.specs.Range.{xor_range}
 use Rattle.word_arithmetic.specs.Binary.{result_range}
 use Rattle.word_arithmetic.specs.Unary.{unary_result_range}
-use Rattle.word_arithmetic.specs.declared.binary.Binary.{Binary}
 use Rattle.word_arithmetic.specs.declared.binary.Binary.TheVariants as binary
 use Rattle.word_arithmetic.specs.declared.unary.Unary.TheVariants as unary
 use Rattle.word_arithmetic.proofs.BitLaws.{word_not_is}

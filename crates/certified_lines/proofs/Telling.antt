@@ -1,21 +1,18 @@
 -- What is known of the words of a scope stays, and what the code of constants and of scalars leaves known.
-use Rattle.std.proofs.Common.{◌≡◌, ℕ, suc, ◌+◌, ◌<◌, ◌≤◌, ℤ, pos, ◌+ℤ◌, ◌-ℤ◌, Bool, true, false, cond, List, [], ◌∷◌}
-use Rattle.std.proofs.Common.{length, Option, Some, None, inl, inr, refl, sym, ap, subst, ◌∙◌, arith, bytes_eq}
-use Rattle.std.specs.Prelude.{slice_get, option_and_then, int_le}
+use Rattle.std.proofs.Common.{◌≡◌, ℕ, ◌+◌, ◌<◌, ◌≤◌, ℤ, pos, ◌+ℤ◌, ◌-ℤ◌, Bool, true, false, cond, List, [], ◌∷◌}
+use Rattle.std.proofs.Common.{length, Option, Some, None, refl, sym, ap, subst, ◌∙◌, arith, bytes_eq}
+use Rattle.std.specs.Prelude.{slice_get, option_and_then}
 use Rattle.std.proofs.lemmas.Int.{ints}
 use Rattle.word_arithmetic.specs.Range as ranges
 use Rattle.word_arithmetic.specs.Range.{Ends, IsRange, full}
 use Rattle.module_format.specs.declared.limits.TheConstants.{MAX_DATA_WORDS}
 use Rattle.states.specs.declared.known.Known.{Known}
-use Rattle.states.specs.declared.known.Loop.{Loop as CountedLoop}
 use Rattle.states.specs.declared.known.WordFact.{WordFact}
 use Rattle.states.specs.declared.known.WordFact.TheVariants.{Alone, Index, Count}
-use Rattle.states.specs.State.{Facts, is_same_number}
+use Rattle.states.specs.State.{Facts}
 use Rattle.local_rules.specs.WordRules.{number_in, known_constant, word_as_known}
 use Rattle.occam_parser.specs.declared.tree.ValueType.{ValueType}
 use Rattle.scalar_ranges.specs.declared.scope.ScalarKind.{ScalarKind}
-use Rattle.scalar_ranges.specs.declared.scope.ArrayKind.{ArrayKind}
-use Rattle.scalar_ranges.specs.declared.scope.ArrayKind.TheVariants as arrays
 use Rattle.scalar_ranges.specs.Entries.{Meaning, Constant, Scalar, Array, Channel, Channels, Procedure, Entry}
 use Rattle.scalar_ranges.specs.Entries.{meaning_in, number_in as number_of_name}
 use Rattle.code_pieces.specs.Pieces.{Piece, loads, constant, counted}
@@ -24,8 +21,8 @@ use Rattle.line_pieces.specs.Homes.{Home, Nowhere, Word, Block, Link, Passed, ho
 use Rattle.line_pieces.specs.Expressions.{scalar_code}
 use Rattle.certified_lines.specs.StraightRules.{Setting, Told, FallOn, with_pushed}
 use Rattle.certified_lines.specs.Instructions.{IsCounted, MayRead}
-use Rattle.certified_lines.specs.Scopes.{Scene, EachNameHas, IsNumber, loop_of, AreKnownThere, HoldsScope, HasTurns}
-use Rattle.certified_lines.specs.Scopes.{IsHousedThere, IsScope}
+use Rattle.certified_lines.specs.Scopes.{Scene, EachNameHas, IsNumber, loop_of, AreKnownThere, HasTurns}
+use Rattle.certified_lines.specs.Scopes.{IsHousedThere}
 use Rattle.certified_lines.specs.Telling.{IsWhole, StayBefore, PushedFact}
 use Rattle.certified_lines.specs.TellingLaws.{ScopesStay, ConstantsTell, ScalarsTell}
 use Rattle.certified_lines.proofs.Instructions.{constants_are_known, loaded_words_are_known}

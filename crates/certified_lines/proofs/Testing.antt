@@ -1,10 +1,9 @@
 -- What comparisons of a scalar with a constant show of its word.
-use Rattle.std.proofs.Common.{◌≡◌, ℕ, ◌≤◌, ℤ, pos, negsuc, Bool, true, false, not, ◌&&◌, cond, List, [], ◌∷◌, ◌++◌}
-use Rattle.std.proofs.Common.{inl, inr, Option, Some, None, Result, Ok, refl, sym, ap, subst, ◌∙◌, arith, FitsSigned}
+use Rattle.std.proofs.Common.{◌≡◌, ℕ, ℤ, pos, Bool, true, false, cond, List, [], ◌∷◌, ◌++◌}
+use Rattle.std.proofs.Common.{inl, inr, Option, Some, None, refl, sym, ap, subst, ◌∙◌, arith, FitsSigned}
 use Rattle.std.proofs.Common.{append_assoc}
-use Rattle.std.specs.Prelude.{◌+ℤ◌, ◌-ℤ◌, int_le}
+use Rattle.std.specs.Prelude.{◌+ℤ◌, ◌-ℤ◌}
 use Rattle.std.specs.Int.{w32}
-use Rattle.std.specs.Ordering.{int_eq}
 use Rattle.std.proofs.lemmas.Int.{ints}
 use Rattle.std.proofs.lemmas.Bool.Decides.{Decides-int_eq}
 use Rattle.word_arithmetic.specs.Word.{is_word, least_word, greatest_word}
@@ -14,7 +13,6 @@ use Rattle.word_arithmetic.specs.Range.{left_by_test, words_above, words_below, 
 use Rattle.word_arithmetic.specs.declared.compare.Comparison.{Comparison}
 use Rattle.word_arithmetic.specs.declared.compare.Comparison.TheVariants as comparison
 use Rattle.word_arithmetic.specs.declared.binary.Binary.TheVariants as binary
-use Rattle.word_arithmetic.specs.Binary.{result_range}
 use Rattle.word_arithmetic.proofs.EndsLaws.{words_in_order_are_ranges}
 use Rattle.word_arithmetic.proofs.TestLaws.{comparisons_are_tests}
 use Rattle.prefix_decoder.specs.declared.function.Fun.TheVariants as fun
@@ -23,7 +21,6 @@ use Rattle.module_format.specs.declared.fact.Fact.TheVariants.{Number}
 use Rattle.states.specs.declared.known.Known.{Known}
 use Rattle.states.specs.declared.known.Source.{Source}
 use Rattle.states.specs.declared.known.Source.TheVariants.{Nowhere, From, Test}
-use Rattle.states.specs.declared.known.WordFact.{WordFact}
 use Rattle.states.specs.declared.known.WordFact.TheVariants.{Alone}
 use Rattle.states.specs.Frames.{with_alone}
 use Rattle.states.specs.State.{Facts, is_same_number}
@@ -34,13 +31,12 @@ use Rattle.scalar_ranges.specs.Narrowing.{as_holds, turned}
 use Rattle.code_pieces.specs.declared.operations.TheConstants.{GREATER, REVERSE}
 use Rattle.code_pieces.specs.Pieces.{Piece, Direct, operates, loads, constant}
 use Rattle.line_pieces.specs.Expressions.{Operand, both, comes_last, pushed, pushes_of, pair_code, negates}
-use Rattle.line_pieces.specs.Expressions.{after_constant}
 use Rattle.line_pieces.specs.Expressions.{next_above, next_below, on_constant, below_constant, negated_unless}
 use Rattle.certified_lines.specs.StraightRules.{Setting, Told, FallOn, with_pushed}
 use Rattle.certified_lines.specs.Instructions.{IsCounted, MayRead, with_a, with_result}
 use Rattle.certified_lines.specs.Numbers.{IsNumberIn}
 use Rattle.certified_lines.specs.Scopes.{IsNumber}
-use Rattle.certified_lines.specs.TestLaws.{OneWordIs, where_it}
+use Rattle.certified_lines.specs.TestLaws.{OneWordIs}
 use Rattle.certified_lines.proofs.StraightRules.{fall_both}
 use Rattle.certified_lines.proofs.Instructions.{constants_are_known, loaded_words_are_known, registers_are_reversed}
 use Rattle.certified_lines.proofs.Numbers.{results_lie_in_ranges, comparisons_are_truths, greater_words_are_told}

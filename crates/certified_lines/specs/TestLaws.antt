@@ -1,10 +1,12 @@
 -- What a condition shows of the scalar that it compares with a constant: its code leaves in A where it comes from, so
 -- that the word of the scalar narrows as its range in the scope does, where the condition holds and where it does not.
-use Rattle.std.specs.Prelude.{◌≡◌, ℕ, ◌≤◌, ℤ, pos, Bool, true, List, [], ◌∷◌, ◌++◌, Option, Some, None, Ok}
+use Rattle.std.specs.Prelude.{◌≡◌, ℕ, ◌≤◌, ℤ, pos, Bool, true, List, [], ◌∷◌, ◌++◌, Some, Ok}
 use Rattle.word_arithmetic.specs.Range.{Ends, IsRange, truths, narrowed}
 use Rattle.prefix_decoder.specs.declared.function.Fun.TheVariants as fun
 use Rattle.occam_parser.specs.declared.tree.ValueType.{ValueType}
-use Rattle.occam_parser.specs.Expressions.{Expression}
+use Rattle.occam_parser.specs.declared.tree.ChainOperator.TheVariants as chain
+use Rattle.occam_parser.specs.declared.tree.Logic.{Logic}
+use Rattle.occam_parser.specs.Expressions.{Expression, Chained, Terms}
 use Rattle.occam_parser.specs.Words.{has_words}
 use Rattle.states.specs.declared.known.Source.TheVariants.{Nowhere}
 use Rattle.states.specs.declared.known.WordFact.TheVariants.{Alone}
@@ -65,3 +67,12 @@ SourcesAreForgotten = (g : Scene) (top t : ℕ) (es : List Entry) (e : Expressio
     → bound_of es e ≡ Ok b → AreAllowed g (expression_code g.homes es t e) → HoldsScope g es before.frame
     → (r : Ends) × IsRange r
     × TellsNothing g.setting (expression_code g.homes es t e ++ Direct fun.AddConstant (pos 0) ∷ []) t r before
+
+-- and so does a chain of conditions
+abbrev pub ChainsTellNothing : Type 0
+ChainsTellNothing = (g : Scene) (top t : ℕ) (es : List Entry) (op : Logic) (ts : Terms) (type : ExprType) (b : Bound)
+    (before : Told) → IsScope g top es → top ≤ t → IsFree t → has_words (Chained (chain.Logic op) ts) ≡ true
+    → type_of es (Chained (chain.Logic op) ts) ≡ Ok type → bound_of es (Chained (chain.Logic op) ts) ≡ Ok b
+    → AreAllowed g (expression_code g.homes es t (Chained (chain.Logic op) ts)) → HoldsScope g es before.frame
+    → (r : Ends) × IsRange r
+    × TellsNothing g.setting (expression_code g.homes es t (Chained (chain.Logic op) ts)) t r before

@@ -26,7 +26,7 @@ ghost use Rattle.certified_lines.specs.OperandLaws.{BothTell, OperationsTell, Ar
 ghost use Rattle.certified_lines.specs.OperandLaws.{PrefixesTell, FirstTwoTell, OneMoreTells};
 ghost use Rattle.certified_lines.specs.ChainTells.{TermsTell};
 ghost use Rattle.certified_lines.specs.ExpressionLaws.{ExpressionsTell};
-ghost use Rattle.certified_lines.specs.TestLaws.{ComparisonsTest, SourcesAreForgotten};
+ghost use Rattle.certified_lines.specs.TestLaws.{ComparisonsTest, SourcesAreForgotten, ChainsTellNothing};
 
 /// What is known after straight pieces, and after others from there, is what is known after both.
 #[tactic(auto, using(crate::proofs::StraightRules::straight_rules_follow))]
@@ -170,8 +170,10 @@ pub fn expressions_are_told()
 {}
 
 /// The code of a comparison of a scalar with a constant leaves a truth that narrows the word of the scalar as the condition
-/// does its range, where it holds and where it does not. Where 0 is added to what a condition leaves, that narrows no word.
+/// does its range, where it holds and where it does not. Where 0 is added to what a condition leaves, that narrows no word,
+/// and nor does a chain of conditions.
 pub fn conditions_are_told()
     ensures tests { ComparisonsTest }
     ensures others { SourcesAreForgotten }
+    ensures chains { ChainsTellNothing }
 {}
