@@ -35,6 +35,7 @@ use Rattle.certified_lines.specs.Scopes.{Scene, HoldsScope, IsScope}
 use Rattle.certified_lines.specs.Telling.{StayBefore, AreAllowed, PushedFact, IsFree, OperandTells, AreTold, keeps}
 use Rattle.certified_lines.specs.OperandLaws.{IsOnly, leaves_below, prefix_range, PrefixesTell, ComparisonsTell}
 use Rattle.certified_lines.proofs.StraightRules.{fall_both}
+use Rattle.certified_lines.proofs.Telling.{like_of, like_both}
 use Rattle.certified_lines.proofs.Instructions.{constants_are_known, registers_are_reversed}
 use Rattle.certified_lines.proofs.Numbers.{results_lie_in_ranges, comparisons_are_truths, turned_bits_lie_in_ranges}
 use Rattle.certified_lines.proofs.Numbers.{sums_lie_in_ranges}
@@ -203,7 +204,7 @@ module _ (g : Scene) (top t : ℕ) (es : List Entry) (scope : IsScope g top es) 
         a = last.a;
         stay = subst (λ (f : Facts). StayBefore t before.frame f) (sym last.frame) two.stay;
         below = λ is.
-            ap (λ (k : Known). k.fact) last.below ∙ two.below (kept_of a.small a.leaf b.leaf is);
+            like_both (two.below (kept_of a.small a.leaf b.leaf is)) (like_of last.below);
         alone = λ is. absurd (cc is);
       }
 
@@ -220,11 +221,11 @@ module _ (g : Scene) (top t : ℕ) (es : List Entry) (scope : IsScope g top es) 
             (record { fact = number_in truths; source = result_source binary.Greater last.stack.b last.stack.a }) last;
         falls = fall_both (constants_are_known g.setting c before) (fall_both first.falls
             (results_lie_in_ranges g.setting GREATER binary.Greater (ranges.constant c) r truths last
-            operands_name.greater (record { is = first.below refl; range = constant_ranged c fits })
+            operands_name.greater (record { is = (first.below refl).fact; range = constant_ranged c fits })
             (record { is = first.a; range = x }) (greater_range (ranges.constant c) r)));
         a = refl;
         stay = first.stay;
-        below = λ is. ap (λ (j : Told). j.stack.c.fact) (first.alone is);
+        below = λ is. like_of (ap (λ (j : Told). j.stack.c) (first.alone is));
         alone = λ is. absurd (cc is);
       }
   over_constant false ps leaf r c x fits tells =
@@ -245,7 +246,7 @@ module _ (g : Scene) (top t : ℕ) (es : List Entry) (scope : IsScope g top es) 
             (record { is = first.a; range = x }) (greater_range (ranges.constant c) r)))));
         a = refl;
         stay = first.stay;
-        below = λ is. ap (λ (j : Told). j.stack.b.fact) (first.alone is);
+        below = λ is. like_of (ap (λ (j : Told). j.stack.b) (first.alone is));
         alone = λ is. absurd (cc is);
       }
 
@@ -265,7 +266,7 @@ module _ (g : Scene) (top t : ℕ) (es : List Entry) (scope : IsScope g top es) 
             (record { is = refl; range = constant_ranged c fits }) (greater_range r (ranges.constant c)));
         a = refl;
         stay = first.stay;
-        below = λ is. ap (λ (j : Told). j.stack.b.fact) (first.alone is);
+        below = λ is. like_of (ap (λ (j : Told). j.stack.b) (first.alone is));
         alone = λ is. absurd (cc is);
       }
 
@@ -383,7 +384,7 @@ module _ (g : Scene) (top t : ℕ) (es : List Entry) (scope : IsScope g top es) 
         (comparisons_are_truths g.setting c s p.after (record { is = p.a; range = y }) fits);
     a = refl;
     stay = p.stay;
-    below = λ is. ap (λ (j : Told). j.stack.b.fact) (p.alone (both_true a.small b.leaf is).1);
+    below = λ is. like_of (ap (λ (j : Told). j.stack.b) (p.alone (both_true a.small b.leaf is).1));
     alone = λ is. absurd (cc is);
   }
 

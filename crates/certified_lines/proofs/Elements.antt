@@ -53,6 +53,7 @@ use Rattle.certified_lines.proofs.Addresses.{selected_words_are_known, selected_
 use Rattle.certified_lines.proofs.Addresses.{distant_words_are_known, loaded_bytes_are_known}
 use Rattle.certified_lines.proofs.Arrays.{elements_are_numbers, spans_are_of_words, all_numbers}
 use Rattle.certified_lines.proofs.Telling.{name_has, few_counted, word_tells, scopes_stay}
+use Rattle.certified_lines.proofs.Telling.{like_of, like_both}
 
 -- ---- pointers that are near
 
@@ -139,7 +140,7 @@ read_behind g ps qs t leaf small r q before p read = record {
   falls = fall_both p.falls read.falls;
   a = read.a;
   stay = subst (λ (f : Facts). StayBefore t before.frame f) (sym read.frame) p.stay;
-  below = λ is. ap (λ (k : Known). k.fact) read.b ∙ p.below is;
+  below = λ is. like_both (p.below is) (like_of read.b);
   alone = λ is. absurd (cc is);
 }
 
@@ -151,7 +152,7 @@ read_alone g ps t small q before read = record {
   falls = read.falls;
   a = read.a;
   stay = λ k less whole. ap (λ (f : Facts). f (pos k)) read.frame;
-  below = λ is. ap (λ (k : Known). k.fact) read.b;
+  below = λ is. like_of read.b;
   alone = λ is. absurd (cc is);
 }
 

@@ -25,12 +25,14 @@ use Rattle.certified_lines.specs.Instructions.{with_result}
 use Rattle.certified_lines.specs.Numbers.{IsNumberIn}
 use Rattle.certified_lines.specs.Scopes.{Scene, HoldsScope, IsScope, IsNumber}
 use Rattle.certified_lines.specs.Telling.{IsWhole, StayBefore, AreAllowed, PushedFact, Tells, IsFree, AreTold}
+use Rattle.certified_lines.specs.Telling.{IsLike}
 use Rattle.certified_lines.specs.Telling.{PushedBoth, keeps}
 use Rattle.certified_lines.specs.OperandLaws.{BothTell, OperationsTell}
 use Rattle.certified_lines.proofs.StraightRules.{fall_both}
 use Rattle.certified_lines.proofs.Instructions.{loaded_words_are_known, stored_words_are_known, registers_are_reversed}
 use Rattle.certified_lines.proofs.Numbers.{results_lie_in_ranges}
 use Rattle.certified_lines.proofs.Telling.{scopes_stay, stay_both, stay_fewer}
+use Rattle.certified_lines.proofs.Telling.{like_of, like_both, like_forgotten}
 
 -- ---- what is allowed
 
@@ -121,9 +123,9 @@ in_either false r s k first second = inl (first, second)
 -- what was in A is known below a value
 pub keeps_a : (g : Setting) (ps : List Piece) (t : ℕ) (leaf small : Bool) (r : Ends) (before : Told)
     → (p : PushedFact g ps t leaf small r before) → (small || leaf) ≡ true
-    → p.after.stack.b.fact ≡ before.stack.a.fact
+    → IsLike before.stack.a p.after.stack.b
 keeps_a g ps t leaf true r before p is = p.below refl
-keeps_a g ps t true false r before p is = ap (λ (k : Told). k.stack.b.fact) (p.alone refl)
+keeps_a g ps t true false r before p is = like_of (ap (λ (k : Told). k.stack.b) (p.alone refl))
 keeps_a g ps t false false r before p is = absurd (cc is)
 
 pub both_true : (a b : Bool) → (a && b) ≡ true → (a ≡ true) × (b ≡ true)
@@ -157,13 +159,13 @@ module _ (g : Scene) (top t : ℕ) (es : List Entry) (scope : IsScope g top es) 
       record {
         after = second.after;
         falls = fall_both first.falls second.falls;
-        operands = in_either in_order r s second.after.stack (second.below small ∙ first.a) second.a;
+        operands = in_either in_order r s second.after.stack ((second.below small).fact ∙ first.a) second.a;
         stay = stay_both t before.frame k.frame second.after.frame first.stay
             (stay_fewer t (word_after t 1) k.frame second.after.frame (next_counted t few) second.stay);
         below = λ is.
             let both = both_true (sx || lx) ly is in
-            ap (λ (k : Told). k.stack.c.fact) (second.alone both.1)
-            ∙ keeps_a g.setting xs t lx sx r before first both.0;
+            like_both (keeps_a g.setting xs t lx sx r before first both.0)
+            (like_of (ap (λ (k : Told). k.stack.c) (second.alone both.1)));
       }
 
   -- the first operand is one push, after the second one
@@ -187,8 +189,7 @@ module _ (g : Scene) (top t : ℕ) (es : List Entry) (scope : IsScope g top es) 
             (subst (λ (f : Facts). StayBefore t k.frame f) (sym last.3) first.stay);
         below = λ is.
             let both = both_true (sx || lx) ly is in
-            ap (λ (k : Known). k.fact) last.4 ∙ ap (λ (k : Told). k.stack.c.fact) alone
-            ∙ ap (λ (k : Told). k.stack.b.fact) (second.alone both.1);
+            like_of (last.4 ∙ ap (λ (k : Told). k.stack.c) alone ∙ ap (λ (k : Told). k.stack.b) (second.alone both.1));
       }
 
   -- where the first operand is stored, and the second one and then the first one are pushed
@@ -197,10 +198,10 @@ module _ (g : Scene) (top t : ℕ) (es : List Entry) (scope : IsScope g top es) 
     falls : FallOn g.setting (stores t ∷ (ys ++ back in_order t)) k after
     operands : AreTold in_order r s after.stack
     stay : StayBefore t k.frame after.frame
-    below : ly ≡ true → after.stack.c.fact ≡ k.stack.b.fact
+    below : ly ≡ true → IsLike k.stack.b after.stack.c
 
   came_back : (k stored : Told) → FallOn g.setting (stores t ∷ []) k stored → StayBefore t k.frame stored.frame
-      → stored.stack.a.fact ≡ k.stack.b.fact → IsNumber stored.frame t r → IsTemporary g.setting t
+      → IsLike k.stack.b stored.stack.a → IsNumber stored.frame t r → IsTemporary g.setting t
       → PushedFact g.setting ys (word_after t 1) ly sy s stored → Waited k
   came_back k stored stores stay below there temporary second =
       let next : word_after t 1 ≡ t + 1 = next_is t temporary.few in
@@ -219,7 +220,7 @@ module _ (g : Scene) (top t : ℕ) (es : List Entry) (scope : IsScope g top es) 
         stay = stay_both t k.frame stored.frame last.0.frame stay
             (subst (λ (f : Facts). StayBefore t stored.frame f) (sym last.3) later);
         below = λ is.
-            ap (λ (k : Known). k.fact) last.4 ∙ ap (λ (k : Told). k.stack.b.fact) (second.alone is) ∙ below;
+            like_both below (like_of (last.4 ∙ ap (λ (k : Told). k.stack.b) (second.alone is)));
       }
 
   behind_stored : (k : Told) → HoldsScope g es k.frame → k.stack.a.fact ≡ number_in r → IsTemporary g.setting t
@@ -232,7 +233,7 @@ module _ (g : Scene) (top t : ℕ) (es : List Entry) (scope : IsScope g top es) 
       stored_there t k.stack.a.fact k.frame ∙ ap (λ (f : Fact). Alone f) is in
       came_back k stored
       (stored_words_are_known g.setting t k temporary.counts temporary.writes (told_number k.stack.a.fact r is)) stay
-      refl there temporary (push_y (allowed_first g ys (back in_order t) may) stored still)
+      (like_forgotten (is_at (pos t)) k.stack.b) there temporary (push_y (allowed_first g ys (back in_order t) may) stored still)
 
   -- the first operand waits in a temporary
   pub waiting : Tells g es xs t lx sx r → Tells g es ys (word_after t 1) ly sy s
@@ -250,7 +251,7 @@ module _ (g : Scene) (top t : ℕ) (es : List Entry) (scope : IsScope g top es) 
         stay = stay_both t before.frame first.after.frame second.after.frame first.stay second.stay;
         below = λ is.
             let both = both_true (sx || lx) ly is in
-            second.below both.1 ∙ keeps_a g.setting xs t lx sx r before first both.0;
+            like_both (keeps_a g.setting xs t lx sx r before first both.0) (second.below both.1);
       }
 
 -- ---- two operands

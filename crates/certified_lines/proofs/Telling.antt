@@ -1,4 +1,5 @@
 -- What is known of the words of a scope stays, and what the code of constants and of scalars leaves known.
+use Rattle.std.proofs.Common.{◌⊎◌, inl, inr}
 use Rattle.std.proofs.Common.{◌≡◌, ℕ, ◌+◌, ◌<◌, ◌≤◌, ℤ, pos, ◌+ℤ◌, ◌-ℤ◌, Bool, true, false, cond, List, [], ◌∷◌}
 use Rattle.std.proofs.Common.{length, Option, Some, None, refl, sym, ap, subst, ◌∙◌, arith, bytes_eq}
 use Rattle.std.specs.Prelude.{slice_get, option_and_then}
@@ -7,9 +8,11 @@ use Rattle.word_arithmetic.specs.Range as ranges
 use Rattle.word_arithmetic.specs.Range.{Ends, IsRange, full}
 use Rattle.module_format.specs.declared.limits.TheConstants.{MAX_DATA_WORDS}
 use Rattle.states.specs.declared.known.Known.{Known}
+use Rattle.states.specs.declared.known.Source.{Source}
+use Rattle.states.specs.declared.known.Source.TheVariants as sources
 use Rattle.states.specs.declared.known.WordFact.{WordFact}
 use Rattle.states.specs.declared.known.WordFact.TheVariants.{Alone, Index, Count}
-use Rattle.states.specs.State.{Facts}
+use Rattle.states.specs.State.{Facts, forgets, without_source}
 use Rattle.local_rules.specs.WordRules.{number_in, known_constant, word_as_known}
 use Rattle.occam_parser.specs.declared.tree.ValueType.{ValueType}
 use Rattle.scalar_ranges.specs.declared.scope.ScalarKind.{ScalarKind}
@@ -23,7 +26,7 @@ use Rattle.certified_lines.specs.StraightRules.{Setting, Told, FallOn, with_push
 use Rattle.certified_lines.specs.Instructions.{IsCounted, MayRead}
 use Rattle.certified_lines.specs.Scopes.{Scene, EachNameHas, IsNumber, loop_of, AreKnownThere, HasTurns}
 use Rattle.certified_lines.specs.Scopes.{IsHousedThere}
-use Rattle.certified_lines.specs.Telling.{IsWhole, StayBefore, PushedFact}
+use Rattle.certified_lines.specs.Telling.{IsWhole, StayBefore, IsLike, PushedFact}
 use Rattle.certified_lines.specs.TellingLaws.{ScopesStay, ConstantsTell, ScalarsTell}
 use Rattle.certified_lines.proofs.Instructions.{constants_are_known, loaded_words_are_known}
 
@@ -110,6 +113,35 @@ scopes_stay g top t es old new scope few stay holds =
     each_has (IsHousedThere g top) (AreKnownThere g old) (AreKnownThere g new) g.homes es
     (known_stays g top t old new few stay) scope.housed holds
 
+-- ---- registers
+
+pub like_of : {old new : Known} → new ≡ old → IsLike old new
+like_of same =
+    record { fact = ap (λ (k : Known). k.fact) same; source = inl (ap (λ (k : Known). k.source) same) }
+
+pub like_both : {a b c : Known} → IsLike a b → IsLike b c → IsLike a c
+like_both first second = record {
+  fact = second.fact ∙ first.fact;
+  source = elim second.source [
+    | inr none ↦ inr none
+    | inl same ↦ elim first.source [ inl before ↦ inl (same ∙ before) | inr none ↦ inr (same ∙ none) ]
+  ];
+}
+
+pub like_forgotten : (touches : ℤ → Bool) (k : Known) → IsLike k (forgets touches k)
+like_forgotten touches k = record { fact = refl; source = by_source k.source }
+  where
+    by_touched : (source : Source) (touched : Bool)
+        → (cond touched sources.Nowhere source ≡ source) ⊎ (cond touched sources.Nowhere source ≡ sources.Nowhere)
+    by_touched source true = inr refl
+    by_touched source false = inl refl
+
+    by_source : (source : Source)
+        → (without_source touches source ≡ source) ⊎ (without_source touches source ≡ sources.Nowhere)
+    by_source sources.Nowhere = inl refl
+    by_source (sources.From word) = by_touched (sources.From word) (touches word)
+    by_source (sources.Test word lo hi inside) = by_touched (sources.Test word lo hi inside) (touches word)
+
 -- ---- one push
 
 pub one_push : (g : Setting) (ps : List Piece) (t : ℕ) (leaf small : Bool) (r : Ends) (k : Known) (s : Told)
@@ -119,7 +151,7 @@ one_push g ps t leaf small r k s is falls = record {
   falls = falls;
   a = is;
   stay = stay_alike t s.frame;
-  below = λ yes. refl;
+  below = λ yes. like_of refl;
   alone = λ yes. refl;
 }
 

@@ -9,6 +9,7 @@ use Rattle.prefix_decoder.specs.declared.function.Fun.TheVariants as fun
 use Rattle.module_format.specs.declared.limits.TheConstants.{MAX_DATA_WORDS}
 use Rattle.module_format.specs.declared.stack.Stack.{Stack}
 use Rattle.states.specs.declared.known.Known.{Known}
+use Rattle.states.specs.declared.known.Source.TheVariants.{Nowhere}
 use Rattle.states.specs.declared.known.WordFact.{WordFact}
 use Rattle.states.specs.declared.known.WordFact.TheVariants.{Alone, Index, Count}
 use Rattle.states.specs.State.{Facts}
@@ -47,6 +48,11 @@ AreAllowed g ps = AllByRecursion (IsAllowed g) ps
 
 -- ---- one value
 
+-- The same is known of a register, and where it comes from, if that is still known.
+pub record IsLike (old new : Known) : Type 0 where
+  pub fact : new.fact ≡ old.fact
+  pub source : (new.source ≡ old.source) ⊎ (new.source ≡ Nowhere)
+
 -- From what is told before, pieces fall to where A is a number in the range. What is known of words before t stays.
 -- Where they are small, B is known as A was, and where they are one push, all else is told as before.
 pub record PushedFact (g : Setting) (ps : List Piece) (t : ℕ) (leaf small : Bool) (r : Ends) (before : Told) : Type 0
@@ -55,7 +61,7 @@ pub record PushedFact (g : Setting) (ps : List Piece) (t : ℕ) (leaf small : Bo
     pub falls : FallOn g ps before after
     pub a : after.stack.a.fact ≡ number_in r
     pub stay : StayBefore t before.frame after.frame
-    pub below : small ≡ true → after.stack.b.fact ≡ before.stack.a.fact
+    pub below : small ≡ true → IsLike before.stack.a after.stack.b
     pub alone : leaf ≡ true → after ≡ with_pushed after.stack.a before
 
 -- so they do wherever this holds of words
@@ -93,7 +99,7 @@ pub record PushedBoth (g : Setting) (ps : List Piece) (t : ℕ) (in_order kept :
   pub falls : FallOn g ps before after
   pub operands : AreTold in_order r s after.stack
   pub stay : StayBefore t before.frame after.frame
-  pub below : kept ≡ true → after.stack.c.fact ≡ before.stack.a.fact
+  pub below : kept ≡ true → IsLike before.stack.a after.stack.c
 
 -- ---- conditions
 
