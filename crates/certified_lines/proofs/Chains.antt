@@ -32,6 +32,7 @@ use Rattle.line_pieces.specs.Expressions.{adds_or, onto, chain_operation}
 use Rattle.certified_lines.specs.StraightRules.{Told}
 use Rattle.certified_lines.specs.Instructions.{with_a}
 use Rattle.certified_lines.specs.Scopes.{Scene, HoldsScope, IsScope}
+use Rattle.certified_lines.specs.Telling.{ComesFromNowhere}
 use Rattle.certified_lines.specs.Telling.{AreAllowed, PushedFact, PushedBoth, Tells, IsFree, OperandTells, keeps}
 use Rattle.certified_lines.specs.OperandLaws.{IsOnly, chain_range, FirstTwoTell, OneMoreTells}
 use Rattle.certified_lines.specs.ChainTells.{TermTells, IsFrontOf, TermsRange, two, then_one, front_or, TermsTell}
@@ -162,7 +163,8 @@ module _ (g : Scene) (top t : ℕ) (es : List Entry) (r s q : Ends) (before : To
   -- the next operand is pushed on what is in A
   onto_by : (lx sx leaf small : Bool) (ps right : List Piece) → Tells g es ps t lx sx r
       → Tells g es right (word_after t 1) leaf small s → AreAllowed g (ps ++ onto false t small right)
-      → PushedBoth g.setting (ps ++ onto false t small right) t false ((sx || lx) && leaf) r s before
+      → PushedBoth g.setting (ps ++ onto false t small right) t false ((sx || lx) && leaf)
+      (ComesFromNowhere g.setting ps × ComesFromNowhere g.setting right) r s before
   onto_by lx sx leaf true ps right first second all =
       on_it g top t es scope low few false r s ps right lx sx leaf true before holds first second refl all
   onto_by lx sx leaf false ps right first second all =
@@ -179,7 +181,8 @@ module _ (g : Scene) (top t : ℕ) (es : List Entry) (r s q : Ends) (before : To
       let last : List Piece = operates (chain_operation op) ∷ [] in
       let same = append_assoc ps (onto false t small right) last in
       subst (λ (code : List Piece). PushedFact g.setting code t false ((sx || lx) && leaf) q before) same
-      (operation_behind g.setting (ps ++ onto false t small right) t false ((sx || lx) && leaf) (chain_operation op)
+      (operation_behind g.setting (ps ++ onto false t small right) t false ((sx || lx) && leaf)
+      (ComesFromNowhere g.setting ps × ComesFromNowhere g.setting right) (chain_operation op)
       operation.operation r s q before x y operation.named operation.gives (λ no. operation.turned)
       (onto_by lx sx leaf small ps right first second (allowed_first g (ps ++ onto false t small right) last
       (subst (λ (code : List Piece). AreAllowed g code) (sym same) all))))

@@ -12,6 +12,8 @@ use Rattle.module_format.specs.Stack.{reversed}
 use Rattle.machine_state.specs.declared.op.Op.TheVariants as ops
 use Rattle.machine_state.specs.Instructions.{op_of}
 use Rattle.states.specs.declared.known.Known.{Known}
+use Rattle.states.specs.declared.known.Source.{Source}
+use Rattle.states.specs.declared.known.Source.TheVariants.{Nowhere}
 use Rattle.states.specs.declared.known.WordFact.{WordFact}
 use Rattle.states.specs.declared.known.WordFact.TheVariants.{Alone, Index, Count}
 use Rattle.states.specs.State.{Facts, is_same_number, is_at, is_parted, by_itself, with_fact}
@@ -25,7 +27,7 @@ use Rattle.certified_lines.specs.Instructions.{with_result}
 use Rattle.certified_lines.specs.Numbers.{IsNumberIn}
 use Rattle.certified_lines.specs.Scopes.{Scene, HoldsScope, IsScope, IsNumber}
 use Rattle.certified_lines.specs.Telling.{IsWhole, StayBefore, AreAllowed, PushedFact, Tells, IsFree, AreTold}
-use Rattle.certified_lines.specs.Telling.{IsLike}
+use Rattle.certified_lines.specs.Telling.{IsLike, IsQuiet, ComesFromNowhere, AreFromNowhere}
 use Rattle.certified_lines.specs.Telling.{PushedBoth, keeps}
 use Rattle.certified_lines.specs.OperandLaws.{BothTell, OperationsTell}
 use Rattle.certified_lines.proofs.StraightRules.{fall_both}
@@ -138,9 +140,18 @@ exchange_falls : (g : Setting) (in_order : Bool) (r s : Ends) (k : Told) → k.s
     → k.stack.b.fact ≡ number_in s
     → (after : Told) × FallOn g (exchanged in_order) k after × AreTold in_order r s after.stack
     × (after.frame ≡ k.frame) × (after.stack.c ≡ k.stack.c)
+    × ((Q : Source → Type 0) → Q k.stack.a.source → Q k.stack.b.source
+    → Q after.stack.b.source × Q after.stack.a.source)
 exchange_falls g true r s k first second =
-    (record k { stack = reversed k.stack }, registers_are_reversed g k, (first, second), refl, refl)
-exchange_falls g false r s k first second = (k, done, inr (second, first), refl, refl)
+    (record k { stack = reversed k.stack }, registers_are_reversed g k, (first, second), refl, refl, λ Q a b. (a, b))
+exchange_falls g false r s k first second = (k, done, inr (second, first), refl, refl, λ Q a b. (b, a))
+
+-- what comes from nowhere comes from no word
+pub quiet_of : (t : ℕ) (source : Source) → source ≡ Nowhere → IsQuiet t source
+quiet_of t source is = subst (IsQuiet t) (sym is) tt
+
+still_nowhere : (old new : Known) → IsLike old new → old.source ≡ Nowhere → new.source ≡ Nowhere
+still_nowhere old new like none = elim like.source [ inl same ↦ same ∙ none | inr gone ↦ gone ]
 
 told_number : (fact : Fact) (r : Ends) → fact ≡ number_in r → is_told fact ≡ true
 told_number fact r is = ap is_told is
@@ -150,7 +161,9 @@ module _ (g : Scene) (top t : ℕ) (es : List Entry) (scope : IsScope g top es) 
     (holds : HoldsScope g es before.frame) where
   -- the second operand leaves what is in A below its value
   pub on_it : Tells g es xs t lx sx r → Tells g es ys (word_after t 1) ly sy s → sy ≡ true
-      → AreAllowed g (xs ++ ys) → PushedBoth g.setting (xs ++ ys) t in_order ((sx || lx) && ly) r s before
+      → AreAllowed g (xs ++ ys)
+      → PushedBoth g.setting (xs ++ ys) t in_order ((sx || lx) && ly)
+      (ComesFromNowhere g.setting xs × ComesFromNowhere g.setting ys) r s before
   on_it push_x push_y small may =
       let first = push_x (allowed_first g xs ys may) before holds in
       let k = first.after in
@@ -160,6 +173,11 @@ module _ (g : Scene) (top t : ℕ) (es : List Entry) (scope : IsScope g top es) 
         after = second.after;
         falls = fall_both first.falls second.falls;
         operands = in_either in_order r s second.after.stack ((second.below small).fact ∙ first.a) second.a;
+        sources = λ calm. (
+          quiet_of t second.after.stack.b.source (still_nowhere k.stack.a second.after.stack.b (second.below small)
+              (calm.0 before k first.falls)),
+          quiet_of t second.after.stack.a.source (calm.1 k second.after second.falls),
+        );
         stay = stay_both t before.frame k.frame second.after.frame first.stay
             (stay_fewer t (word_after t 1) k.frame second.after.frame (next_counted t few) second.stay);
         below = λ is.
@@ -171,7 +189,8 @@ module _ (g : Scene) (top t : ℕ) (es : List Entry) (scope : IsScope g top es) 
   -- the first operand is one push, after the second one
   pub on_other : Tells g es xs t lx sx r → Tells g es ys t ly sy s → lx ≡ true
       → AreAllowed g (ys ++ (xs ++ exchanged in_order))
-      → PushedBoth g.setting (ys ++ (xs ++ exchanged in_order)) t in_order ((sx || lx) && ly) r s before
+      → PushedBoth g.setting (ys ++ (xs ++ exchanged in_order)) t in_order ((sx || lx) && ly)
+      (ComesFromNowhere g.setting xs × ComesFromNowhere g.setting ys) r s before
   on_other push_x push_y leaf may =
       let second = push_y (allowed_first g ys (xs ++ exchanged in_order) may) before holds in
       let k = second.after in
@@ -185,6 +204,10 @@ module _ (g : Scene) (top t : ℕ) (es : List Entry) (scope : IsScope g top es) 
         after = last.0;
         falls = fall_both second.falls (fall_both first.falls last.1);
         operands = last.2;
+        sources = λ calm.
+            last.5 (IsQuiet t) (quiet_of t first.after.stack.a.source (calm.0 k first.after first.falls))
+            (quiet_of t first.after.stack.b.source
+            (ap (λ (j : Told). j.stack.b.source) alone ∙ calm.1 before k second.falls));
         stay = stay_both t before.frame k.frame last.0.frame second.stay
             (subst (λ (f : Facts). StayBefore t k.frame f) (sym last.3) first.stay);
         below = λ is.
@@ -197,6 +220,7 @@ module _ (g : Scene) (top t : ℕ) (es : List Entry) (scope : IsScope g top es) 
     after : Told
     falls : FallOn g.setting (stores t ∷ (ys ++ back in_order t)) k after
     operands : AreTold in_order r s after.stack
+    sources : ComesFromNowhere g.setting ys → IsQuiet t after.stack.b.source × IsQuiet t after.stack.a.source
     stay : StayBefore t k.frame after.frame
     below : ly ≡ true → IsLike k.stack.b after.stack.c
 
@@ -217,6 +241,11 @@ module _ (g : Scene) (top t : ℕ) (es : List Entry) (scope : IsScope g top es) 
         falls = fall_both stores (fall_both second.falls
             (fall_both (loaded_words_are_known g.setting t second.after temporary.counts temporary.reads) last.1));
         operands = last.2;
+        sources = λ calm.
+            last.5 (IsQuiet t)
+            (subst (IsQuiet t) (sym (ap (λ (w : WordFact). (word_as_known (pos t) w).source) waits))
+            (omega (arith, ints)))
+            (quiet_of t second.after.stack.a.source (calm stored second.after second.falls));
         stay = stay_both t k.frame stored.frame last.0.frame stay
             (subst (λ (f : Facts). StayBefore t stored.frame f) (sym last.3) later);
         below = λ is.
@@ -238,7 +267,8 @@ module _ (g : Scene) (top t : ℕ) (es : List Entry) (scope : IsScope g top es) 
   -- the first operand waits in a temporary
   pub waiting : Tells g es xs t lx sx r → Tells g es ys (word_after t 1) ly sy s
       → AreAllowed g (xs ++ (stores t ∷ (ys ++ back in_order t)))
-      → PushedBoth g.setting (xs ++ (stores t ∷ (ys ++ back in_order t))) t in_order ((sx || lx) && ly) r s before
+      → PushedBoth g.setting (xs ++ (stores t ∷ (ys ++ back in_order t))) t in_order ((sx || lx) && ly)
+      (ComesFromNowhere g.setting xs × ComesFromNowhere g.setting ys) r s before
   waiting push_x push_y may =
       let first = push_x (allowed_first g xs (stores t ∷ (ys ++ back in_order t)) may) before holds in
       let rest = allowed_rest g xs (stores t ∷ (ys ++ back in_order t)) may in
@@ -248,6 +278,7 @@ module _ (g : Scene) (top t : ℕ) (es : List Entry) (scope : IsScope g top es) 
         after = second.after;
         falls = fall_both first.falls second.falls;
         operands = second.operands;
+        sources = λ calm. second.sources calm.1;
         stay = stay_both t before.frame first.after.frame second.after.frame first.stay second.stay;
         below = λ is.
             let both = both_true (sx || lx) ly is in
@@ -255,6 +286,18 @@ module _ (g : Scene) (top t : ℕ) (es : List Entry) (scope : IsScope g top es) 
       }
 
 -- ---- two operands
+
+calmer : {g : Setting} {ps : List Piece} {t : ℕ} {in_order kept : Bool} {calm other : Type 0} {r s : Ends}
+    {before : Told} → (other → calm) → PushedBoth g ps t in_order kept calm r s before
+    → PushedBoth g ps t in_order kept other r s before
+calmer further two = record {
+  after = two.after;
+  falls = two.falls;
+  operands = two.operands;
+  sources = λ calm. two.sources (further calm);
+  stay = two.stay;
+  below = two.below;
+}
 
 both_by : (lx sy : Bool) (g : Scene) (top t : ℕ) (es : List Entry) (in_order : Bool) (xs xs2 ys ys2 : List Piece)
     (sx ly : Bool) (r s : Ends) (before : Told) → IsScope g top es → top ≤ t → IsFree t → Tells g es xs t lx sx r
@@ -265,15 +308,20 @@ both_by : (lx sy : Bool) (g : Scene) (top t : ℕ) (es : List Entry) (in_order :
     → HoldsScope g es before.frame
     → PushedBoth g.setting (both in_order (comes_last lx sy) t
     (record { first = xs; second = xs2; leaf = lx; small = sx })
-    (record { first = ys; second = ys2; leaf = ly; small = sy })) t in_order ((sx || lx) && ly) r s before
+    (record { first = ys; second = ys2; leaf = ly; small = sy })) t in_order ((sx || lx) && ly)
+    (ComesFromNowhere g.setting xs × ComesFromNowhere g.setting ys × ComesFromNowhere g.setting ys2) r s before
 both_by true true g top t es in_order xs xs2 ys ys2 sx ly r s before scope low few px py py2 all holds =
-    on_it g top t es scope low few in_order r s xs ys2 true sx ly true before holds px py2 refl all
+    calmer (λ calm. (calm.0, calm.2))
+    (on_it g top t es scope low few in_order r s xs ys2 true sx ly true before holds px py2 refl all)
 both_by false true g top t es in_order xs xs2 ys ys2 sx ly r s before scope low few px py py2 all holds =
-    on_it g top t es scope low few in_order r s xs ys2 false sx ly true before holds px py2 refl all
+    calmer (λ calm. (calm.0, calm.2))
+    (on_it g top t es scope low few in_order r s xs ys2 false sx ly true before holds px py2 refl all)
 both_by true false g top t es in_order xs xs2 ys ys2 sx ly r s before scope low few px py py2 all holds =
-    on_other g top t es scope low few in_order r s xs ys true sx ly false before holds px py refl all
+    calmer (λ calm. (calm.0, calm.1))
+    (on_other g top t es scope low few in_order r s xs ys true sx ly false before holds px py refl all)
 both_by false false g top t es in_order xs xs2 ys ys2 sx ly r s before scope low few px py py2 all holds =
-    waiting g top t es scope low few in_order r s xs ys2 false sx ly false before holds px py2 all
+    calmer (λ calm. (calm.0, calm.2))
+    (waiting g top t es scope low few in_order r s xs ys2 false sx ly false before holds px py2 all)
 
 pub both_tell : BothTell
 both_tell g top t es in_order a b r s before scope low few push_a push_b all holds =
@@ -316,12 +364,12 @@ ranged false op r s q k x y (inr are) gives either = record {
 }
 
 -- an operation of two operands that are pushed
-pub operation_behind : (g : Setting) (ps : List Piece) (t : ℕ) (in_order kept : Bool) (operation : ℤ) (op : Binary)
-    (r s q : Ends) (before : Told) → IsRange r → IsRange s → op_of operation ≡ Some (ops.Binary op)
+pub operation_behind : (g : Setting) (ps : List Piece) (t : ℕ) (in_order kept : Bool) (calm : Type 0)
+    (operation : ℤ) (op : Binary) (r s q : Ends) (before : Told) → IsRange r → IsRange s → op_of operation ≡ Some (ops.Binary op)
     → result_range op r s ≡ Some q → (in_order ≡ false → result_range op s r ≡ Some q)
-    → PushedBoth g ps t in_order kept r s before
+    → PushedBoth g ps t in_order kept calm r s before
     → PushedFact g (ps ++ operates operation ∷ []) t false kept q before
-operation_behind g ps t in_order kept operation op r s q before x y named gives either two =
+operation_behind g ps t in_order kept calm operation op r s q before x y named gives either two =
     let k = two.after in
     let are = ranged in_order op r s q k.stack x y two.operands gives either in
     record {
@@ -338,6 +386,6 @@ pub operations_tell : OperationsTell
 operations_tell g top t es in_order a b operation op r s q before scope low few x y push_a push_b named gives either
     all holds =
     let code : List Piece = both in_order (comes_last a.leaf b.small) t a b in
-    operation_behind g.setting code t in_order (keeps a b) operation op r s q before x y named gives either
+    operation_behind g.setting code t in_order (keeps a b) (AreFromNowhere g.setting a b) operation op r s q before x y named gives either
     (both_tell g top t es in_order a b r s before scope low few push_a push_b
     (allowed_first g code (operates operation ∷ []) all) holds)

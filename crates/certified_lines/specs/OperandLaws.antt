@@ -26,6 +26,7 @@ use Rattle.line_pieces.specs.Expressions.{Operand, both, comes_last, pushed, pus
 use Rattle.line_pieces.specs.Expressions.{prefix_code, first_two, joined, added_by}
 use Rattle.certified_lines.specs.StraightRules.{Setting, Told}
 use Rattle.certified_lines.specs.Scopes.{Scene, HoldsScope, IsScope}
+use Rattle.certified_lines.specs.Telling.{AreFromNowhere}
 use Rattle.certified_lines.specs.Telling.{AreAllowed, PushedFact, PushedBoth, Tells, IsFree, OperandTells, keeps}
 
 -- two operands, in order or in any order
@@ -33,7 +34,8 @@ abbrev pub BothTell : Type 0
 BothTell = (g : Scene) (top t : ℕ) (es : List Entry) (in_order : Bool) (a b : Operand) (r s : Ends) (before : Told)
     → IsScope g top es → top ≤ t → IsFree t → OperandTells g es t a r → OperandTells g es t b s
     → AreAllowed g (both in_order (comes_last a.leaf b.small) t a b) → HoldsScope g es before.frame
-    → PushedBoth g.setting (both in_order (comes_last a.leaf b.small) t a b) t in_order (keeps a b) r s before
+    → PushedBoth g.setting (both in_order (comes_last a.leaf b.small) t a b) t in_order (keeps a b)
+    (AreFromNowhere g.setting a b) r s before
 
 -- and the operation of both, whose results have one range in either order where their order does not matter
 abbrev pub OperationsTell : Type 0

@@ -1,5 +1,5 @@
 -- What it is that the code of an expression leaves a number in a range in A.
-use Rattle.std.specs.Prelude.{◌≡◌, ⊤, ℕ, suc, ◌<◌, ◌≤◌, ◌⊎◌, pos, Bool, true, false, ◌&&◌, ◌||◌, List, Option}
+use Rattle.std.specs.Prelude.{◌≡◌, ⊤, ℕ, suc, ◌<◌, ◌≤◌, ◌⊎◌, ℤ, pos, ◌≤ℤ◌, Bool, true, false, ◌&&◌, ◌||◌, List, Option}
 use Rattle.std.specs.Prelude.{Some, None}
 use Rattle.std.specs.List.{AllByRecursion}
 use Rattle.word_arithmetic.specs.Word.{truth}
@@ -9,7 +9,8 @@ use Rattle.prefix_decoder.specs.declared.function.Fun.TheVariants as fun
 use Rattle.module_format.specs.declared.limits.TheConstants.{MAX_DATA_WORDS}
 use Rattle.module_format.specs.declared.stack.Stack.{Stack}
 use Rattle.states.specs.declared.known.Known.{Known}
-use Rattle.states.specs.declared.known.Source.TheVariants.{Nowhere}
+use Rattle.states.specs.declared.known.Source.{Source}
+use Rattle.states.specs.declared.known.Source.TheVariants.{Nowhere, From, Test}
 use Rattle.states.specs.declared.known.WordFact.{WordFact}
 use Rattle.states.specs.declared.known.WordFact.TheVariants.{Alone, Index, Count}
 use Rattle.states.specs.State.{Facts}
@@ -47,6 +48,16 @@ abbrev pub AreAllowed : Scene → List Piece → Type 0
 AreAllowed g ps = AllByRecursion (IsAllowed g) ps
 
 -- ---- one value
+
+-- It comes from nowhere, or from a word from this one on.
+abbrev pub IsQuiet : ℕ → Source → Type 0
+IsQuiet t Nowhere = ⊤
+IsQuiet t (From word) = pos t ≤ℤ word
+IsQuiet t (Test word lo hi inside) = pos t ≤ℤ word
+
+-- Whatever is told before, what pieces leave in A comes from nowhere.
+abbrev pub ComesFromNowhere : Setting → List Piece → Type 0
+ComesFromNowhere g ps = (s t : Told) → FallOn g ps s t → t.stack.a.source ≡ Nowhere
 
 -- The same is known of a register, and where it comes from, if that is still known.
 pub record IsLike (old new : Known) : Type 0 where
@@ -93,11 +104,18 @@ AreTold false r s k =
 abbrev pub keeps : (first second : Operand) → Bool
 keeps x y = (x.small || x.leaf) && y.leaf
 
-pub record PushedBoth (g : Setting) (ps : List Piece) (t : ℕ) (in_order kept : Bool) (r s : Ends) (before : Told)
-    : Type 0 where
+-- where each of both operands comes from nowhere
+abbrev pub AreFromNowhere : Setting → (first second : Operand) → Type 0
+AreFromNowhere g x y =
+    ComesFromNowhere g x.first × ComesFromNowhere g y.first × ComesFromNowhere g y.second
+
+-- Two operands are told, and come from no word before t where this holds.
+pub record PushedBoth (g : Setting) (ps : List Piece) (t : ℕ) (in_order kept : Bool) (calm : Type 0) (r s : Ends)
+    (before : Told) : Type 0 where
   pub after : Told
   pub falls : FallOn g ps before after
   pub operands : AreTold in_order r s after.stack
+  pub sources : calm → IsQuiet t after.stack.b.source × IsQuiet t after.stack.a.source
   pub stay : StayBefore t before.frame after.frame
   pub below : kept ≡ true → IsLike before.stack.a after.stack.c
 
