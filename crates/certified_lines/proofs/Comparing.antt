@@ -20,6 +20,7 @@ use Rattle.occam_parser.specs.declared.tree.PairOperator.TheVariants as pair
 use Rattle.occam_parser.specs.declared.tree.PrefixOperator.{PrefixOperator}
 use Rattle.occam_parser.specs.declared.tree.PrefixOperator.TheVariants as prefix
 use Rattle.states.specs.declared.known.Known.{Known}
+use Rattle.states.specs.declared.known.Source.TheVariants.{Nowhere}
 use Rattle.states.specs.State.{Facts, known}
 use Rattle.local_rules.specs.WordRules.{number_in, result_source, equal_source, known_constant}
 use Rattle.scalar_ranges.specs.Entries.{Entry}
@@ -39,6 +40,7 @@ use Rattle.certified_lines.proofs.Telling.{like_of, like_both}
 use Rattle.certified_lines.proofs.Instructions.{constants_are_known, registers_are_reversed}
 use Rattle.certified_lines.proofs.Numbers.{results_lie_in_ranges, comparisons_are_truths, turned_bits_lie_in_ranges}
 use Rattle.certified_lines.proofs.Numbers.{sums_lie_in_ranges}
+use Rattle.certified_lines.proofs.Numbers.{nothing_is_told_from_nowhere}
 use Rattle.certified_lines.proofs.Named.{operands_name}
 use Rattle.certified_lines.proofs.Ranges.{checked_by, constant_ranged, negative, not_ranged}
 use Rattle.certified_lines.proofs.Operands.{both_tell, operations_tell, allowed_first, allowed_rest}
@@ -133,12 +135,13 @@ exchanged_kept small false true is = absurd (cc is)
 exchanged_kept small leaf false is = absurd (cc is)
 
 -- two numbers differ, and the difference is compared with 0
-record Differ (g : Setting) (k : Told) : Type 0 where
-  after : Told
-  falls : FallOn g (operates DIFFERENCE ∷ negates ∷ []) k after
-  a : after.stack.a.fact ≡ number_in truths
-  frame : after.frame ≡ k.frame
-  below : after.stack.b ≡ k.stack.c
+pub record Differ (g : Setting) (k : Told) : Type 0 where
+  pub after : Told
+  pub falls : FallOn g (operates DIFFERENCE ∷ negates ∷ []) k after
+  pub a : after.stack.a.fact ≡ number_in truths
+  pub frame : after.frame ≡ k.frame
+  pub below : after.stack.b ≡ k.stack.c
+  pub source : after.stack.a.source ≡ Nowhere
 
 differ : (g : Setting) (r s : Ends) (k : Told) → IsNumberIn k.stack.b r → IsNumberIn k.stack.a s → Differ g k
 differ g r s k b a =
@@ -154,9 +157,11 @@ differ g r s k b a =
       a = refl;
       frame = refl;
       below = refl;
+      source = nothing_is_told_from_nowhere d.stack.a (pos 0) refl;
     }
 
-either_differ : (g : Setting) (r s : Ends) (k : Told) → IsRange r → IsRange s → AreTold false r s k.stack → Differ g k
+pub either_differ : (g : Setting) (r s : Ends) (k : Told) → IsRange r → IsRange s → AreTold false r s k.stack
+    → Differ g k
 either_differ g r s k x y (inl are) =
     differ g r s k (record { is = are.0; range = x }) (record { is = are.1; range = y })
 either_differ g r s k x y (inr are) =
@@ -172,7 +177,7 @@ below_fits c d is =
     let by = checked_by (is_word (c -ℤ pos 1)) (c -ℤ pos 1) d is in
     subst (FitsSigned w32) by.1 (is_word_out (c -ℤ pos 1) by.0)
 
-only_fits : (c : ℤ) (r : Ends) → IsRange r → IsOnly (Some c) r → FitsSigned w32 c
+pub only_fits : (c : ℤ) (r : Ends) → IsRange r → IsOnly (Some c) r → FitsSigned w32 c
 only_fits c r x only = subst (FitsSigned w32) (ap (λ (e : Ends). e.lo) only) x.lo_fits
 
 module _ (g : Scene) (top t : ℕ) (es : List Entry) (scope : IsScope g top es) (low : top ≤ t) (few : IsFree t)

@@ -116,7 +116,7 @@ module _ (hs : List Home) (es : List Entry) (t : ℕ) where
     expression_constant (Chained op ts) v is =
         ap (λ (o : Option ℤ). constant_or o (terms_code hs es t op (front_in es op ts) ts)) (ap exact_value is)
 
-    term_constant : (x : Term) (v : ℤ) → bound_of_term es x ≡ Ok (Exactly v) → term_code hs es t x ≡ constant v ∷ []
+    pub term_constant : (x : Term) (v : ℤ) → bound_of_term es x ≡ Ok (Exactly v) → term_code hs es t x ≡ constant v ∷ []
     term_constant (Number value) v is = ap (λ (u : ℤ). constant u ∷ []) (exact_same value v is)
     term_constant (Byte byte) v is = ap (λ (u : ℤ). constant u ∷ []) (exact_same (pos byte) v is)
     term_constant (Truth holds) v is = not_within truths v is
@@ -134,7 +134,7 @@ module _ (hs : List Home) (es : List Entry) (t : ℕ) where
         let same = (passed_ok (is_within (ends b.0) (type_range to)) OUT_OF_RANGE b.0 (Exactly v) b.2).1 in
         term_constant x v (b.1 ∙ ap (λ (c : Bound). Ok c) same)
 
-exact_bound : (r : Result Bound ℕ) (v : ℤ) → exact_value r ≡ Some v → r ≡ Ok (Exactly v)
+pub exact_bound : (r : Result Bound ℕ) (v : ℤ) → exact_value r ≡ Some v → r ≡ Ok (Exactly v)
 exact_bound (Ok (Exactly u)) v is = let same : u ≡ v = cc in ap (λ (w : ℤ). Ok (Exactly w)) same
 exact_bound (Ok (Within r)) v is = absurd (cc is)
 exact_bound (Err n) v is = absurd (cc is)

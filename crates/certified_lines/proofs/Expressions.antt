@@ -193,7 +193,7 @@ module _ (g : Scene) (top : ℕ) (es : List Entry) where
   only_told types.Byte b r is = subst (IsOnly (exact_value (Ok b))) (sym is) (only_of b)
   only_told types.Condition b r is = subst (λ (c : Bound). IsOnly (exact_value (Ok c)) r) (sym is.0) tt
 
-  term_tells : (x : Term) (type : ExprType) (b : Bound) → bound_of_term es x ≡ Ok b → (told : TermTold x type b)
+  pub term_tells : (x : Term) (type : ExprType) (b : Bound) → bound_of_term es x ≡ Ok b → (told : TermTold x type b)
       → (t : ℕ) → top ≤ t → IsFree t → TermTells g es t x told.range
   term_tells x type b is told t low few = record {
     ranged = told.ranged;

@@ -607,7 +607,7 @@ module _ (g : Scene) (top : ℕ) (es : List Entry) (scope : IsScope g top es) wh
         λ b typed is. term_told x types.Int b w.0 typed is
     first_told (Chained op (Then ts x)) words = tt
 
-    term_told : (x : Term) (type : ExprType) (d : Bound) → has_words_in x ≡ true → type_of_term es x ≡ Ok type
+    pub term_told : (x : Term) (type : ExprType) (d : Bound) → has_words_in x ≡ true → type_of_term es x ≡ Ok type
         → bound_of_term es x ≡ Ok d → TermTold g top es x type d
     term_told (Number value) type d words typed is =
         number_literal value type d (is_word_out value words) (ok_same types.Int type typed)

@@ -21,3 +21,5 @@ pub mod Testing
 pub mod Conditions
 pub mod MovingWords
 pub mod Sources
+pub mod Silent
+pub mod Quiet

@@ -150,7 +150,7 @@ exchange_falls g false r s k first second = (k, done, inr (second, first), refl,
 pub quiet_of : (t : ℕ) (source : Source) → source ≡ Nowhere → IsQuiet t source
 quiet_of t source is = subst (IsQuiet t) (sym is) tt
 
-still_nowhere : (old new : Known) → IsLike old new → old.source ≡ Nowhere → new.source ≡ Nowhere
+pub still_nowhere : (old new : Known) → IsLike old new → old.source ≡ Nowhere → new.source ≡ Nowhere
 still_nowhere old new like none = elim like.source [ inl same ↦ same ∙ none | inr gone ↦ gone ]
 
 told_number : (fact : Fact) (r : Ends) → fact ≡ number_in r → is_told fact ≡ true
@@ -262,7 +262,8 @@ module _ (g : Scene) (top t : ℕ) (es : List Entry) (scope : IsScope g top es) 
       stored_there t k.stack.a.fact k.frame ∙ ap (λ (f : Fact). Alone f) is in
       came_back k stored
       (stored_words_are_known g.setting t k temporary.counts temporary.writes (told_number k.stack.a.fact r is)) stay
-      (like_forgotten (is_at (pos t)) k.stack.b) there temporary (push_y (allowed_first g ys (back in_order t) may) stored still)
+      (like_forgotten (is_at (pos t)) k.stack.b) there temporary
+      (push_y (allowed_first g ys (back in_order t) may) stored still)
 
   -- the first operand waits in a temporary
   pub waiting : Tells g es xs t lx sx r → Tells g es ys (word_after t 1) ly sy s
@@ -365,7 +366,8 @@ ranged false op r s q k x y (inr are) gives either = record {
 
 -- an operation of two operands that are pushed
 pub operation_behind : (g : Setting) (ps : List Piece) (t : ℕ) (in_order kept : Bool) (calm : Type 0)
-    (operation : ℤ) (op : Binary) (r s q : Ends) (before : Told) → IsRange r → IsRange s → op_of operation ≡ Some (ops.Binary op)
+    (operation : ℤ) (op : Binary) (r s q : Ends) (before : Told) → IsRange r → IsRange s
+    → op_of operation ≡ Some (ops.Binary op)
     → result_range op r s ≡ Some q → (in_order ≡ false → result_range op s r ≡ Some q)
     → PushedBoth g ps t in_order kept calm r s before
     → PushedFact g (ps ++ operates operation ∷ []) t false kept q before
@@ -386,6 +388,7 @@ pub operations_tell : OperationsTell
 operations_tell g top t es in_order a b operation op r s q before scope low few x y push_a push_b named gives either
     all holds =
     let code : List Piece = both in_order (comes_last a.leaf b.small) t a b in
-    operation_behind g.setting code t in_order (keeps a b) (AreFromNowhere g.setting a b) operation op r s q before x y named gives either
+    operation_behind g.setting code t in_order (keeps a b) (AreFromNowhere g.setting a b) operation op r s q before x
+    y named gives either
     (both_tell g top t es in_order a b r s before scope low few push_a push_b
     (allowed_first g code (operates operation ∷ []) all) holds)

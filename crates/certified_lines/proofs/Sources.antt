@@ -59,7 +59,7 @@ straight_head (next x rest) = tt
 straight_head (table rest) = tt
 
 -- what falls over pieces falls over the last of them
-last_falls : {g : Setting} (ps : List Piece) {qs : List Piece} {s t : Told} → FallOn g (ps ++ qs) s t
+pub last_falls : {g : Setting} (ps : List Piece) {qs : List Piece} {s t : Told} → FallOn g (ps ++ qs) s t
     → (m : Told) × FallOn g qs m t
 unfolding IsStraight
 last_falls [] {s = s} x = (s, x)
@@ -76,17 +76,17 @@ last_falls (Place label ∷ ps) x = absurd (straight_head x)
 last_falls (WithinPiece workspace ∷ ps) x = absurd (straight_head x)
 last_falls (Par par ∷ ps) x = absurd (straight_head x)
 
-one_falls : {g : Setting} {f : Fun} {e : ℤ} {m t : Told} → FallOn g (Direct f e ∷ []) m t
+pub one_falls : {g : Setting} {f : Fun} {e : ℤ} {m t : Told} → FallOn g (Direct f e ∷ []) m t
     → Falls g f (operand_at (pos g.depth) f e) m t
 one_falls (next x done) = x
 
 -- ---- where it comes from
 
 -- where what is in A comes from after a rule that lets a state fall
-source_after : Ruling → Source
+unfoldable pub source_after : Ruling → Source
 source_after r = elim (falling r) as (λ o. Source) [ None ↦ Nowhere | Some s ↦ s.stack.a.source ]
 
-no_break : (broken : _) (s : State) → breaks broken ≡ falls s → ⊥
+pub no_break : (broken : _) (s : State) → breaks broken ≡ falls s → ⊥
 no_break broken s is = absurd (cc (ap falling is))
 
 -- a register that is used is known
@@ -99,7 +99,7 @@ used_by (CodeAddress offset) rest s is = is
 used_by (Loop base count weight) rest s is = is
 used_by ReturnAddress rest s is = is
 
-used : (k : Known) (rest : Fact → Ruling) (s : State) → uses k rest ≡ falls s → rest k.fact ≡ falls s
+pub used : (k : Known) (rest : Fact → Ruling) (s : State) → uses k rest ≡ falls s → rest k.fact ≡ falls s
 unfolding uses
 used k rest s is = used_by k.fact (rest k.fact) s is
 

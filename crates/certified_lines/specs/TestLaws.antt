@@ -1,12 +1,15 @@
 -- What a condition shows of the scalar that it compares with a constant: its code leaves in A where it comes from, so
 -- that the word of the scalar narrows as its range in the scope does, where the condition holds and where it does not.
-use Rattle.std.specs.Prelude.{◌≡◌, ℕ, ◌≤◌, ℤ, pos, Bool, true, List, [], ◌∷◌, ◌++◌, Some, Ok}
+use Rattle.std.specs.Prelude.{◌≡◌, ℕ, ◌≤◌, ℤ, pos, Bool, true, false, List, [], ◌∷◌, ◌++◌, Some, Ok}
 use Rattle.word_arithmetic.specs.Range.{Ends, IsRange, truths, narrowed}
 use Rattle.prefix_decoder.specs.declared.function.Fun.TheVariants as fun
 use Rattle.occam_parser.specs.declared.tree.ValueType.{ValueType}
 use Rattle.occam_parser.specs.declared.tree.ChainOperator.TheVariants as chain
 use Rattle.occam_parser.specs.declared.tree.Logic.{Logic}
-use Rattle.occam_parser.specs.Expressions.{Expression, Chained, Terms}
+use Rattle.occam_parser.specs.declared.tree.PairOperator.TheVariants as pair
+use Rattle.word_arithmetic.specs.declared.compare.Comparison.{Comparison}
+use Rattle.line_pieces.specs.Actions.{may_show}
+use Rattle.occam_parser.specs.Expressions.{Expression, Paired, Chained, Terms, Term}
 use Rattle.occam_parser.specs.Words.{has_words}
 use Rattle.states.specs.declared.known.Source.TheVariants.{Nowhere}
 use Rattle.states.specs.declared.known.WordFact.TheVariants.{Alone}
@@ -23,7 +26,7 @@ use Rattle.line_pieces.specs.Homes.{Word, home_of}
 use Rattle.line_pieces.specs.Expressions.{expression_code}
 use Rattle.certified_lines.specs.StraightRules.{Setting, Told, FallOn}
 use Rattle.certified_lines.specs.Scopes.{Scene, HoldsScope, IsScope}
-use Rattle.certified_lines.specs.Telling.{StayBefore, AreAllowed, IsFree}
+use Rattle.certified_lines.specs.Telling.{StayBefore, AreAllowed, IsFree, IsQuiet}
 
 -- Of one word of the frame it is known that it is a number in this range, and of all others what was known before.
 pub record OneWordIs (w : ℕ) (r : Ends) (old new : Facts) : Type 0 where
@@ -76,3 +79,20 @@ ChainsTellNothing = (g : Scene) (top t : ℕ) (es : List Entry) (op : Logic) (ts
     → AreAllowed g (expression_code g.homes es t (Chained (chain.Logic op) ts)) → HoldsScope g es before.frame
     → (r : Ends) × IsRange r
     × TellsNothing g.setting (expression_code g.homes es t (Chained (chain.Logic op) ts)) t r before
+
+-- Code leaves a truth in A that comes from no word before t.
+pub record ShowsNothing (g : Setting) (ps : List Piece) (t : ℕ) (before : Told) : Type 0 where
+  pub after : Told
+  pub falls : FallOn g ps before after
+  pub fact : after.stack.a.fact ≡ number_in truths
+  pub source : IsQuiet t after.stack.a.source
+  pub stay : StayBefore t before.frame after.frame
+
+-- so does a comparison of which it is known that it shows nothing of a word
+abbrev pub ComparisonsShowNothing : Type 0
+ComparisonsShowNothing = (g : Scene) (top t : ℕ) (es : List Entry) (c : Comparison) (x y : Term) (type : ExprType)
+    (b : Bound) (before : Told) → IsScope g top es → top ≤ t → IsFree t
+    → has_words (Paired (pair.Comparison c) x y) ≡ true → type_of es (Paired (pair.Comparison c) x y) ≡ Ok type
+    → bound_of es (Paired (pair.Comparison c) x y) ≡ Ok b → may_show es (Paired (pair.Comparison c) x y) ≡ false
+    → AreAllowed g (expression_code g.homes es t (Paired (pair.Comparison c) x y)) → HoldsScope g es before.frame
+    → ShowsNothing g.setting (expression_code g.homes es t (Paired (pair.Comparison c) x y)) t before

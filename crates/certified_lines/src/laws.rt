@@ -27,6 +27,7 @@ ghost use Rattle.certified_lines.specs.OperandLaws.{PrefixesTell, FirstTwoTell, 
 ghost use Rattle.certified_lines.specs.ChainTells.{TermsTell};
 ghost use Rattle.certified_lines.specs.ExpressionLaws.{ExpressionsTell};
 ghost use Rattle.certified_lines.specs.TestLaws.{ComparisonsTest, SourcesAreForgotten, ChainsTellNothing};
+ghost use Rattle.certified_lines.specs.TestLaws.{ComparisonsShowNothing};
 
 /// What is known after straight pieces, and after others from there, is what is known after both.
 #[tactic(auto, using(crate::proofs::StraightRules::straight_rules_follow))]
@@ -170,10 +171,11 @@ pub fn expressions_are_told()
 {}
 
 /// The code of a comparison of a scalar with a constant leaves a truth that narrows the word of the scalar as the condition
-/// does its range, where it holds and where it does not. Where 0 is added to what a condition leaves, that narrows no word,
-/// and nor does a chain of conditions.
+/// does its range, where it holds and where it does not. No other condition narrows a word of the scope: one to whose truth
+/// 0 is added, a chain of conditions, and a comparison that may show nothing of a word.
 pub fn conditions_are_told()
     ensures tests { ComparisonsTest }
     ensures others { SourcesAreForgotten }
     ensures chains { ChainsTellNothing }
+    ensures comparisons { ComparisonsShowNothing }
 {}

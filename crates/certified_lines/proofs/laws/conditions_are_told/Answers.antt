@@ -1,4 +1,5 @@
 use Rattle.certified_lines.proofs.Conditions.{comparisons_test, sources_are_forgotten}
+use Rattle.certified_lines.proofs.Quiet.{comparisons_show_nothing}
 use Rattle.certified_lines.proofs.Sources.{chains_tell_nothing}
 use Rattle.certified_lines.proofs.laws.conditions_are_told.Goals as goal
 
@@ -10,3 +11,6 @@ returns-clause-others c = sources_are_forgotten
 
 pub returns-clause-chains : goal.returns-clause-chains
 returns-clause-chains c = chains_tell_nothing
+
+pub returns-clause-comparisons : goal.returns-clause-comparisons
+returns-clause-comparisons c = comparisons_show_nothing
