@@ -1,7 +1,7 @@
 -- What the code of prefixes and of comparisons leaves known.
 use Rattle.std.proofs.Common.{◌≡◌, ℕ, ◌≤◌, inl, inr, ℤ, pos, Bool, true, false, ◌&&◌, ◌||◌, List, [], ◌∷◌, ◌++◌}
 use Rattle.std.proofs.Common.{Option, Some}
-use Rattle.std.proofs.Common.{None, FitsSigned, refl, sym, ap, subst, ◌∙◌, arith, append_assoc}
+use Rattle.std.proofs.Common.{None, FitsSigned, refl, sym, ap, subst, arith, append_assoc}
 use Rattle.std.specs.Prelude.{◌+ℤ◌, ◌-ℤ◌}
 use Rattle.std.specs.Int.{w32}
 use Rattle.std.proofs.lemmas.Int.{ints}
@@ -19,7 +19,6 @@ use Rattle.prefix_decoder.specs.declared.function.Fun.TheVariants as fun
 use Rattle.occam_parser.specs.declared.tree.PairOperator.TheVariants as pair
 use Rattle.occam_parser.specs.declared.tree.PrefixOperator.{PrefixOperator}
 use Rattle.occam_parser.specs.declared.tree.PrefixOperator.TheVariants as prefix
-use Rattle.states.specs.declared.known.Known.{Known}
 use Rattle.states.specs.declared.known.Source.TheVariants.{Nowhere}
 use Rattle.states.specs.State.{Facts, known}
 use Rattle.local_rules.specs.WordRules.{number_in, result_source, equal_source, known_constant}

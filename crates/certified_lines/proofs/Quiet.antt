@@ -1,9 +1,8 @@
 -- A comparison that shows nothing of a word comes from no word of its scope.
-use Rattle.std.proofs.Common.{◌≡◌, ℕ, ◌≤◌, ℤ, Bool, true, false, not, ◌||◌, List, [], ◌∷◌, ◌++◌, Option, Some, None}
-use Rattle.std.proofs.Common.{Result, Ok, refl, sym, ap, subst, ◌∙◌}
+use Rattle.std.proofs.Common.{◌≡◌, ℕ, ℤ, Bool, true, false, not, ◌||◌, List, [], ◌∷◌, ◌++◌, Option, Some, None}
+use Rattle.std.proofs.Common.{Ok, refl, sym, ap, subst, ◌∙◌}
 use Rattle.std.proofs.lemmas.Bool.{and_parts}
 use Rattle.word_arithmetic.specs.Range.{Ends, truths}
-use Rattle.word_arithmetic.specs.declared.compare.Comparison.{Comparison}
 use Rattle.occam_parser.specs.declared.tree.ValueType.{ValueType}
 use Rattle.occam_parser.specs.declared.tree.ValueType.TheVariants as value_type
 use Rattle.occam_parser.specs.declared.tree.PairOperator.TheVariants as pair
@@ -13,23 +12,22 @@ use Rattle.occam_parser.specs.Words.{has_words_in}
 use Rattle.scalar_ranges.specs.declared.scope.ArrayKind.{ArrayKind}
 use Rattle.scalar_ranges.specs.declared.scope.ArrayKind.TheVariants as arrays
 use Rattle.scalar_ranges.specs.declared.types.ExprType.{ExprType}
-use Rattle.scalar_ranges.specs.Bounds.{Bound, Within, ends, pair_bound, bound_of, bound_of_term, exact_value}
+use Rattle.scalar_ranges.specs.Bounds.{Bound, Within, pair_bound, bound_of, bound_of_term, exact_value}
 use Rattle.scalar_ranges.specs.Bounds.{range_found}
 use Rattle.scalar_ranges.specs.Entries.{Meaning, Constant, Scalar, Array, Channel, Channels, Procedure, Entry}
 use Rattle.scalar_ranges.specs.Entries.{meaning_in}
 use Rattle.scalar_ranges.specs.Types.{type_of_term, pair_type, element_type, subscripted, type_of}
 use Rattle.scalar_ranges.proofs.Parts.{both_ok, ok_same}
 use Rattle.code_pieces.specs.declared.operations.TheConstants.{LOAD_BYTE, WORD_SUBSCRIPT}
-use Rattle.code_pieces.specs.Pieces.{Piece, TableAddress, operates, constant, word_after}
+use Rattle.code_pieces.specs.Pieces.{Piece, TableAddress, operates, word_after}
 use Rattle.line_pieces.specs.Homes as home
 use Rattle.line_pieces.specs.Homes.{Home, Nowhere, Word, Block, Link, Passed, home_of}
 use Rattle.line_pieces.specs.Actions.{may_be_word}
-use Rattle.line_pieces.specs.Expressions.{Operand, Subscript, beside, constant_or, is_known, expression_code, term_code}
+use Rattle.line_pieces.specs.Expressions.{Subscript, beside, constant_or, is_known, expression_code, term_code}
 use Rattle.line_pieces.specs.Expressions.{single, element_code, before_offset, subscript_code, address_code, loads_at}
 use Rattle.line_pieces.specs.Expressions.{or_zero, subscript_of, pushed, pushes_of, pair_code}
-use Rattle.certified_lines.specs.StraightRules.{Told}
-use Rattle.certified_lines.specs.Scopes.{Scene, HoldsScope, IsHousedThere, IsScope}
-use Rattle.certified_lines.specs.Telling.{ComesFromNowhere, AreAllowed, IsFree}
+use Rattle.certified_lines.specs.Scopes.{Scene, IsHousedThere, IsScope}
+use Rattle.certified_lines.specs.Telling.{ComesFromNowhere, AreAllowed}
 use Rattle.certified_lines.specs.TestLaws.{ShowsNothing, ComparisonsShowNothing}
 use Rattle.certified_lines.proofs.Telling.{name_has}
 use Rattle.certified_lines.proofs.Expressions.{term_tells}

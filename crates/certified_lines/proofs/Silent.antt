@@ -1,11 +1,10 @@
 -- Comparisons of constants and of elements whose number is not known: what they leave comes from no word of a scope.
 use Rattle.std.proofs.Common.{◌≡◌, ℕ, ◌≤◌, ℤ, pos, ◌+ℤ◌, ◌*ℤ◌, ◌≤ℤ◌, not, Bool, true, false, cond, List, [], ◌∷◌, ◌++◌}
 use Rattle.std.proofs.Common.{Option, Some, None}
-use Rattle.std.proofs.Common.{Result, Ok, Err, refl, sym, ap, subst, ◌∙◌, arith, FitsSigned, append_assoc}
+use Rattle.std.proofs.Common.{Result, Ok, Err, refl, sym, ap, subst, arith, FitsSigned, append_assoc}
 use Rattle.std.specs.Prelude.{option_map}
 use Rattle.std.specs.Int.{w32}
 use Rattle.std.specs.Ordering.{int_eq}
-use Rattle.std.proofs.lemmas.Int.{ints}
 use Rattle.word_arithmetic.specs.Word.{least_word}
 use Rattle.word_arithmetic.specs.Range as ranges
 use Rattle.word_arithmetic.specs.Range.{Ends, IsRange, truths, words_above, words_below, word_difference_range}
@@ -21,11 +20,10 @@ use Rattle.states.specs.declared.known.Source.TheVariants.{Nowhere, From, Test}
 use Rattle.states.specs.declared.rule.Rule.{Rule}
 use Rattle.states.specs.declared.rule.Rule.TheVariants as rules
 use Rattle.rulings.specs.Reach.{may_read_bytes}
-use Rattle.states.specs.State.{Facts, State, known, is_same_number}
+use Rattle.states.specs.State.{Facts, State, is_same_number}
 use Rattle.rulings.specs.Rulings.{Ruling, Site, falls, breaks, outside_alternation, outside_starts, settles, pays}
-use Rattle.rulings.specs.Rulings.{goes_on, push}
+use Rattle.rulings.specs.Rulings.{goes_on}
 use Rattle.rulings.specs.Pointers.{pointer_of, reads_bytes, word_read, byte_read}
-use Rattle.rulings.specs.declared.pointers.Pointed.{Pointed}
 use Rattle.local_rules.specs.LocalRules.{local_operation_rule, local_rule}
 use Rattle.local_rules.specs.MemoryRules.{words_behind, with_fact_a}
 use Rattle.local_rules.specs.WordRules.{number_in, known_constant, constant_in, greater_source, equal_source}
@@ -41,10 +39,9 @@ use Rattle.line_pieces.specs.Expressions.{after_constant}
 use Rattle.line_pieces.specs.Expressions.{next_above, next_below, on_constant, below_constant, negated_unless, loads_at}
 use Rattle.certified_lines.specs.StraightRules.{Setting, Told, Falls, FallOn, with_pushed, state_of}
 use Rattle.certified_lines.specs.Instructions.{with_a, with_result}
-use Rattle.certified_lines.specs.Numbers.{IsNumberIn}
 use Rattle.certified_lines.specs.Scopes.{Scene, HoldsScope, IsScope}
 use Rattle.certified_lines.specs.Telling.{StayBefore, IsQuiet, ComesFromNowhere, AreFromNowhere, AreAllowed, PushedFact}
-use Rattle.certified_lines.specs.Telling.{PushedBoth, IsFree, OperandTells, keeps}
+use Rattle.certified_lines.specs.Telling.{IsFree, OperandTells}
 use Rattle.certified_lines.specs.OperandLaws.{IsOnly}
 use Rattle.certified_lines.proofs.StraightRules.{fall_both}
 use Rattle.certified_lines.proofs.Instructions.{constants_are_known, registers_are_reversed}
@@ -53,7 +50,7 @@ use Rattle.certified_lines.proofs.Named.{operands_name}
 use Rattle.certified_lines.proofs.Ranges.{constant_ranged}
 use Rattle.certified_lines.proofs.Operands.{both_tell, allowed_first, allowed_rest, quiet_of, still_nowhere}
 use Rattle.certified_lines.proofs.Comparing.{greater_range, truths_ranged, zero_fits, above_fits, below_fits, only_fits}
-use Rattle.certified_lines.proofs.Comparing.{Differ, either_differ}
+use Rattle.certified_lines.proofs.Comparing.{either_differ}
 use Rattle.certified_lines.specs.TestLaws.{ShowsNothing}
 use Rattle.certified_lines.proofs.Sources.{last_falls, one_falls, source_after, no_break, used}
 
