@@ -53,6 +53,13 @@ use Rattle.certified_lines.proofs.Comparing.{greater_range, truths_ranged, zero_
 use Rattle.certified_lines.proofs.Comparing.{either_differ}
 use Rattle.certified_lines.specs.TestLaws.{ShowsNothing}
 use Rattle.certified_lines.proofs.Sources.{last_falls, one_falls, source_after, no_break, used}
+use Rattle.word_arithmetic.specs.Range.{range_between, left_by}
+use Rattle.states.specs.Frames.{with_alone}
+use Rattle.local_rules.specs.WordRules.{narrowed_words, own_range, same}
+use Rattle.certified_lines.specs.TestLaws.{QuietTruthsNarrowNothing}
+use Rattle.states.specs.declared.known.WordFact.TheVariants.{Alone}
+use Rattle.std.proofs.Common.{◌<◌}
+use Rattle.std.proofs.lemmas.Int.{ints}
 
 -- ---- what comes from nowhere
 
@@ -413,3 +420,32 @@ module _ (g : Scene) (top t : ℕ) (es : List Entry) (scope : IsScope g top es) 
       in_order (allowed_first g first_second (operates GREATER ∷ []) all)
   compared_shows comparison.GreaterOrEqual first second is only all =
       greater_or_equal second (next_below second) refl all
+
+-- ---- what it narrows
+
+not_there : (t k : ℕ) (word : ℤ) → k < t → pos t ≤ℤ word → is_same_number (pos k) word ≡ false
+not_there t k word before up = grind (arith, ints)
+
+alone_stays : (t : ℕ) (word : ℤ) (fact : Fact) (f : Facts) → pos t ≤ℤ word → StayBefore t f (with_alone word fact f)
+alone_stays t word fact f up k before whole =
+    ap (λ (b : Bool). cond b (Alone fact) (f (pos k))) (not_there t k word before up)
+
+narrowed_stays : (t : ℕ) (word : ℤ) (f : Facts) (left : Ends → Ends → Ends) (o p : Option Ends) → pos t ≤ℤ word
+    → StayBefore t f (elim o as (λ o. Facts) [
+      | None ↦ f
+      | Some r ↦ elim p as (λ p. Facts) [ None ↦ f | Some other ↦ with_alone word (number_in (left r other)) f ]
+    ])
+narrowed_stays t word f left None p up = λ k before whole. refl
+narrowed_stays t word f left (Some r) None up = λ k before whole. refl
+narrowed_stays t word f left (Some r) (Some other) up = alone_stays t word (number_in (left r other)) f up
+
+source_narrows : (t : ℕ) (source : Source) (holds : Bool) (f : Facts) → IsQuiet t source
+    → StayBefore t f (narrowed_words source holds f)
+unfolding narrowed_words
+source_narrows t Nowhere holds f quiet = λ k before whole. refl
+source_narrows t (From word) holds f quiet = λ k before whole. refl
+source_narrows t (Test word lo hi inside) holds f quiet =
+    narrowed_stays t word f (left_by (same inside holds)) (own_range (f word)) (range_between lo hi) quiet
+
+pub quiet_truths_narrow_nothing : QuietTruthsNarrowNothing
+quiet_truths_narrow_nothing t s holds quiet = source_narrows t s.stack.a.source holds s.frame quiet

@@ -87,7 +87,7 @@ unfoldable pub source_after : Ruling → Source
 source_after r = elim (falling r) as (λ o. Source) [ None ↦ Nowhere | Some s ↦ s.stack.a.source ]
 
 pub no_break : (broken : _) (s : State) → breaks broken ≡ falls s → ⊥
-no_break broken s is = absurd (cc (ap falling is))
+no_break broken s is = let none = ap falling is in absurd (cc)
 
 -- a register that is used is known
 used_by : (fact : Fact) (rest : Ruling) (s : State)

@@ -96,3 +96,8 @@ ComparisonsShowNothing = (g : Scene) (top t : ℕ) (es : List Entry) (c : Compar
     → bound_of es (Paired (pair.Comparison c) x y) ≡ Ok b → may_show es (Paired (pair.Comparison c) x y) ≡ false
     → AreAllowed g (expression_code g.homes es t (Paired (pair.Comparison c) x y)) → HoldsScope g es before.frame
     → ShowsNothing g.setting (expression_code g.homes es t (Paired (pair.Comparison c) x y)) t before
+
+-- what comes from no word before t narrows none
+abbrev pub QuietTruthsNarrowNothing : Type 0
+QuietTruthsNarrowNothing = (t : ℕ) (s : Told) (holds : Bool) → IsQuiet t s.stack.a.source
+    → StayBefore t s.frame (where_it holds s)

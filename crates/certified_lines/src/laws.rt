@@ -27,7 +27,7 @@ ghost use Rattle.certified_lines.specs.OperandLaws.{PrefixesTell, FirstTwoTell, 
 ghost use Rattle.certified_lines.specs.ChainTells.{TermsTell};
 ghost use Rattle.certified_lines.specs.ExpressionLaws.{ExpressionsTell};
 ghost use Rattle.certified_lines.specs.TestLaws.{ComparisonsTest, SourcesAreForgotten, ChainsTellNothing};
-ghost use Rattle.certified_lines.specs.TestLaws.{ComparisonsShowNothing};
+ghost use Rattle.certified_lines.specs.TestLaws.{ComparisonsShowNothing, QuietTruthsNarrowNothing};
 
 /// What is known after straight pieces, and after others from there, is what is known after both.
 #[tactic(auto, using(crate::proofs::StraightRules::straight_rules_follow))]
@@ -178,4 +178,5 @@ pub fn conditions_are_told()
     ensures others { SourcesAreForgotten }
     ensures chains { ChainsTellNothing }
     ensures comparisons { ComparisonsShowNothing }
+    ensures quiet { QuietTruthsNarrowNothing }
 {}

@@ -1,5 +1,6 @@
 use Rattle.certified_lines.proofs.Conditions.{comparisons_test, sources_are_forgotten}
 use Rattle.certified_lines.proofs.Quiet.{comparisons_show_nothing}
+use Rattle.certified_lines.proofs.Silent.{quiet_truths_narrow_nothing}
 use Rattle.certified_lines.proofs.Sources.{chains_tell_nothing}
 use Rattle.certified_lines.proofs.laws.conditions_are_told.Goals as goal
 
@@ -14,3 +15,6 @@ returns-clause-chains c = chains_tell_nothing
 
 pub returns-clause-comparisons : goal.returns-clause-comparisons
 returns-clause-comparisons c = comparisons_show_nothing
+
+pub returns-clause-quiet : goal.returns-clause-quiet
+returns-clause-quiet c = quiet_truths_narrow_nothing
