@@ -23,3 +23,4 @@ pub mod MovingWords
 pub mod Sources
 pub mod Silent
 pub mod Quiet
+pub mod NarrowedScopes

@@ -14,3 +14,4 @@ pub mod ElementLaws
 pub mod ExpressionLaws
 pub mod TestLaws
 pub mod MovingWords
+pub mod NarrowedScopes

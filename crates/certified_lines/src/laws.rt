@@ -26,6 +26,7 @@ ghost use Rattle.certified_lines.specs.OperandLaws.{BothTell, OperationsTell, Ar
 ghost use Rattle.certified_lines.specs.OperandLaws.{PrefixesTell, FirstTwoTell, OneMoreTells};
 ghost use Rattle.certified_lines.specs.ChainTells.{TermsTell};
 ghost use Rattle.certified_lines.specs.ExpressionLaws.{ExpressionsTell};
+ghost use Rattle.certified_lines.specs.NarrowedScopes.{ChangedScopesHold, TestedScopesHold};
 ghost use Rattle.certified_lines.specs.TestLaws.{ComparisonsTest, SourcesAreForgotten, ChainsTellNothing};
 ghost use Rattle.certified_lines.specs.TestLaws.{ComparisonsShowNothing, QuietTruthsNarrowNothing};
 
@@ -179,4 +180,11 @@ pub fn conditions_are_told()
     ensures chains { ChainsTellNothing }
     ensures comparisons { ComparisonsShowNothing }
     ensures quiet { QuietTruthsNarrowNothing }
+{}
+
+/// Where of the word of a scalar another range is known, a scope is held in which the scalar has that one, if no other name
+/// has the word. So a scope is held that is narrowed by a condition, where it holds and where it does not.
+pub fn narrowed_scopes_are_held()
+    ensures changed { ChangedScopesHold }
+    ensures tested { TestedScopesHold }
 {}
