@@ -24,3 +24,4 @@ pub mod Sources
 pub mod Silent
 pub mod Quiet
 pub mod NarrowedScopes
+pub mod Jumps

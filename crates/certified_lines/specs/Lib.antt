@@ -15,3 +15,4 @@ pub mod ExpressionLaws
 pub mod TestLaws
 pub mod MovingWords
 pub mod NarrowedScopes
+pub mod Jumps

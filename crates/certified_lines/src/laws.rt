@@ -26,6 +26,7 @@ ghost use Rattle.certified_lines.specs.OperandLaws.{BothTell, OperationsTell, Ar
 ghost use Rattle.certified_lines.specs.OperandLaws.{PrefixesTell, FirstTwoTell, OneMoreTells};
 ghost use Rattle.certified_lines.specs.ChainTells.{TermsTell};
 ghost use Rattle.certified_lines.specs.ExpressionLaws.{ExpressionsTell};
+ghost use Rattle.certified_lines.specs.Jumps.{JumpsFork};
 ghost use Rattle.certified_lines.specs.NarrowedScopes.{ChangedScopesHold, TestedScopesHold};
 ghost use Rattle.certified_lines.specs.TestLaws.{ComparisonsTest, SourcesAreForgotten, ChainsTellNothing};
 ghost use Rattle.certified_lines.specs.TestLaws.{ComparisonsShowNothing, QuietTruthsNarrowNothing};
@@ -187,4 +188,11 @@ pub fn conditions_are_told()
 pub fn narrowed_scopes_are_held()
     ensures changed { ChangedScopesHold }
     ensures tested { TestedScopesHold }
+{}
+
+/// A conditional jump breaks no rule where A is a number and the row where it leads knows as much or less. Where it falls
+/// words are known as the truth in A shows them, and where it leads as its opposite does.
+#[tactic(auto, using(crate::proofs::Jumps::jumps_fork))]
+pub fn jumps_are_told()
+    ensures { JumpsFork }
 {}
