@@ -47,9 +47,10 @@ replaced g ps qs t leaf small r q v before p is falls = record {
   alone = λ is. absurd (cc is);
 }
 
-pub fewer_kept : (g : Setting) (ps : List Piece) (t : ℕ) (small kept : Bool) (r : Ends) (before : Told)
-    → (small ≡ true → kept ≡ true) → PushedFact g ps t false kept r before → PushedFact g ps t false small r before
-fewer_kept g ps t small kept r before further p = record {
+-- less may be asked of what is below
+pub less_small : (g : Setting) (ps : List Piece) (t : ℕ) (leaf small kept : Bool) (r : Ends) (before : Told)
+    → (small ≡ true → kept ≡ true) → PushedFact g ps t leaf kept r before → PushedFact g ps t leaf small r before
+less_small g ps t leaf small kept r before further p = record {
   after = p.after;
   falls = p.falls;
   a = p.a;
@@ -57,6 +58,10 @@ fewer_kept g ps t small kept r before further p = record {
   below = λ is. p.below (further is);
   alone = p.alone;
 }
+
+pub fewer_kept : (g : Setting) (ps : List Piece) (t : ℕ) (small kept : Bool) (r : Ends) (before : Told)
+    → (small ≡ true → kept ≡ true) → PushedFact g ps t false kept r before → PushedFact g ps t false small r before
+fewer_kept g ps t small kept r before further p = less_small g ps t false small kept r before further p
 
 pub kept_of : (small leaf second : Bool) → (small && second) ≡ true → ((small || leaf) && second) ≡ true
 kept_of true leaf true is = refl

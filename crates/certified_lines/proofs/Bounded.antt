@@ -31,6 +31,7 @@ use Rattle.scalar_ranges.proofs.Parts.{or_ok, mapped, both_are, ok_same}
 use Rattle.program_meaning.proofs.ValuesTyped.{arithmetic_word}
 use Rattle.certified_lines.specs.OperandLaws.{pair_range, chain_range, prefix_range}
 use Rattle.certified_lines.proofs.Ranges.{constant_ranged}
+use Rattle.certified_lines.proofs.Ranges.{full_ranged}
 
 -- ---- a bound is a constant, or a range
 
@@ -132,9 +133,6 @@ bit_not_is (Within r) d h is =
 
 zero_to_ranged : (v : ℤ) → FitsSigned w32 v → pos 0 ≤ℤ v → IsRange (zero_to v)
 zero_to_ranged v fits low = record { lo_fits = omega (arith, ints); hi_fits = fits; ordered = low }
-
-pub full_ranged : IsRange full
-full_ranged = record { lo_fits = omega (arith, ints); hi_fits = omega (arith, ints); ordered = omega (arith, ints) }
 
 product_low : (a : ℤ) (m : ℕ) → pos 0 ≤ℤ a → pos 0 ≤ℤ (a *ℤ pos m)
 product_low (pos n) m low = omega (arith, ints)

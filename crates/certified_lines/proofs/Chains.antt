@@ -35,7 +35,7 @@ use Rattle.certified_lines.specs.Scopes.{Scene, HoldsScope, IsScope}
 use Rattle.certified_lines.specs.Telling.{ComesFromNowhere}
 use Rattle.certified_lines.specs.Telling.{AreAllowed, PushedFact, PushedBoth, Tells, IsFree, OperandTells, keeps}
 use Rattle.certified_lines.specs.OperandLaws.{IsOnly, chain_range, FirstTwoTell, OneMoreTells}
-use Rattle.certified_lines.specs.ChainTells.{TermTells, IsFrontOf, TermsRange, two, then_one, front_or, TermsTell}
+use Rattle.certified_lines.specs.ChainLaws.{TermTells, IsFrontOf, TermsRange, two, then_one, front_or, TermsTell}
 use Rattle.certified_lines.proofs.StraightRules.{fall_both}
 use Rattle.certified_lines.proofs.Numbers.{sums_lie_in_ranges}
 use Rattle.certified_lines.proofs.Named.{Names, operands_name}
@@ -45,6 +45,7 @@ use Rattle.certified_lines.proofs.Telling.{constants_tell}
 use Rattle.certified_lines.proofs.Operands.{operations_tell, operation_behind, on_it, waiting, allowed_first, keeps_a}
 use Rattle.certified_lines.proofs.Operands.{both_true}
 use Rattle.certified_lines.proofs.Arithmetic.{fewer_kept, kept_of, sum_tells}
+use Rattle.certified_lines.proofs.Arithmetic.{first_of}
 
 -- ---- operations
 
@@ -258,10 +259,6 @@ kept_small : (small leaf : Bool) → (small && leaf) ≡ true → ((small || fal
 kept_small true leaf is = is
 kept_small false leaf is = absurd (cc is)
 
-first_small : (small leaf : Bool) → (small && leaf) ≡ true → small ≡ true
-first_small true leaf is = refl
-first_small false leaf is = absurd (cc is)
-
 module _ (g : Scene) (top t : ℕ) (es : List Entry) (op : ChainOperator) (front : Option Front)
     (scope : IsScope g top es) (low : top ≤ t) (few : IsFree t) where
   abbrev operand : Term → Operand
@@ -293,7 +290,7 @@ module _ (g : Scene) (top t : ℕ) (es : List Entry) (op : ChainOperator) (front
       (sym (append-nil code))
       (λ all told holds.
       fewer_kept g.setting code t (are_small es ts && is_leaf_term es x) (are_small es ts) (ranges.constant c) told
-      (first_small (are_small es ts) (is_leaf_term es x))
+      (first_of (are_small es ts) (is_leaf_term es x))
       (subst (λ (e : Ends). PushedFact g.setting code t false (are_small es ts) e told)
       (ap (λ (o : Option ℤ). front_or o r) (still_covered front (count_of ts) c is)) (before.1 all told holds)))
   more_by None ts x r s q is here before second gives =

@@ -54,6 +54,7 @@ use Rattle.certified_lines.proofs.Addresses.{distant_words_are_known, loaded_byt
 use Rattle.certified_lines.proofs.Arrays.{elements_are_numbers, spans_are_of_words, all_numbers}
 use Rattle.certified_lines.proofs.Telling.{name_has, few_counted, word_tells, scopes_stay}
 use Rattle.certified_lines.proofs.Telling.{like_of, like_both}
+use Rattle.certified_lines.proofs.Ranges.{full_ranged}
 
 -- ---- pointers that are near
 
@@ -264,15 +265,17 @@ module _ (g : Setting) (region : Region) (base size : ℕ) (few : base ≤ 10000
 
 -- ---- words of the frame
 
-full_ranged : IsRange full
-full_ranged = record { lo_fits = omega (arith, ints); hi_fits = omega (arith, ints); ordered = omega (arith, ints) }
+-- a test that each of some words passes
+pub all_pass : (test : ℤ → Bool) (first count : ℕ) → ((n : ℕ) → n < count → test (pos (first + n)) ≡ true)
+    → all_words test (pos first) count ≡ true
+all_pass test first zero each = refl
+all_pass test first (suc more) each =
+    and_from _ _ (each more (omega arith)) (all_pass test first more (λ n less. each n (omega (arith, less))))
 
 -- words that may each be read may be read together
 reads_all : (g : Setting) (first count : ℕ) → MayReadAll g first count
     → all_words (may_read_word g.contents g.context) (pos first) count ≡ true
-reads_all g first zero may = refl
-reads_all g first (suc more) may =
-    and_from _ _ (may more (omega arith)) (reads_all g first more (λ n less. may n (omega (arith, less))))
+reads_all g first count may = all_pass (may_read_word g.contents g.context) first count may
 
 some_of : (g : Setting) (word count first more : ℕ) → first + more < count → MayReadAll g word count
     → MayReadAll g (word + first) (suc more)

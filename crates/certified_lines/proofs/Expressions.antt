@@ -38,7 +38,7 @@ use Rattle.line_pieces.specs.Expressions.{pair_code, prefix_code, covered}
 use Rattle.certified_lines.specs.Scopes.{Scene, IsScope}
 use Rattle.certified_lines.specs.Telling.{Tells, IsFree, OperandTells, truth_range}
 use Rattle.certified_lines.specs.OperandLaws.{IsOnly, pair_range, prefix_range, chain_range}
-use Rattle.certified_lines.specs.ChainTells.{TermTells, IsFrontOf, TermsRange, two, then_one, front_or}
+use Rattle.certified_lines.specs.ChainLaws.{TermTells, IsFrontOf, TermsRange, two, then_one, front_or}
 use Rattle.certified_lines.specs.ExpressionLaws.{IsRangeOf, IsTold, ExpressionTells}
 use Rattle.certified_lines.proofs.Telling.{constants_tell}
 use Rattle.certified_lines.proofs.Ranges.{constant_ranged, not_ranged, truth_ranged, both_truths, either_truth}
@@ -64,7 +64,7 @@ only_of (Within r) = tt
 only_there : (result : Result Bound ℕ) (b : Bound) → result ≡ Ok b → IsOnly (exact_value result) (ends b)
 only_there result b is = subst (λ (o : Option ℤ). IsOnly o (ends b)) (sym (ap exact_value is)) (only_of b)
 
-exactly_same : (u v : ℤ) → ◌≡◌ {A = Bound} (Exactly u) (Exactly v) → u ≡ v
+pub exactly_same : (u v : ℤ) → ◌≡◌ {A = Bound} (Exactly u) (Exactly v) → u ≡ v
 exactly_same u v is = cc
 
 module _ (g : Scene) (top : ℕ) (es : List Entry) where

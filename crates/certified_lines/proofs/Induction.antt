@@ -52,25 +52,24 @@ use Rattle.line_pieces.specs.Expressions.{Subscript}
 use Rattle.line_pieces.specs.Expressions.{offset_of, offset_or_none, added_by, greatest_offset, without, or_zero}
 use Rattle.line_pieces.specs.Expressions.{before_offset, subscript_of, element_code, element_of_words, element_of_table}
 use Rattle.line_pieces.specs.Expressions.{loads_at, subscript_code}
-use Rattle.certified_lines.specs.StraightRules.{Told}
 use Rattle.certified_lines.specs.Scopes.{Scene, IsHousedThere, IsScope}
 use Rattle.certified_lines.specs.Telling.{PushedFact, Tells, IsFree}
 use Rattle.certified_lines.specs.ElementLaws.{IsArray, Select}
 use Rattle.certified_lines.specs.ExpressionLaws.{IsTold, ExpressionTells, ExpressionsTell}
 use Rattle.certified_lines.proofs.Telling.{constants_tell, scalars_tell, name_has}
 use Rattle.certified_lines.proofs.Ranges.{truth_ranged}
+use Rattle.certified_lines.proofs.Ranges.{full_ranged}
 use Rattle.certified_lines.proofs.Operands.{allowed_first, allowed_rest}
-use Rattle.certified_lines.proofs.Bounded.{ranges_give_is, full_ranged}
+use Rattle.certified_lines.proofs.Bounded.{ranges_give_is}
 use Rattle.certified_lines.proofs.Elements.{known_words_tell, words_tell, known_bytes_tell, bytes_tell}
 use Rattle.certified_lines.proofs.Elements.{known_items_tell}
 use Rattle.certified_lines.proofs.Elements.{items_tell, as_natural}
 use Rattle.certified_lines.proofs.Expressions.{TermTold, constant_told, literal_told, as_bound, of_values}
+use Rattle.certified_lines.proofs.Expressions.{exactly_same}
 use Rattle.certified_lines.proofs.Expressions.{alone_told, prefixed_told, paired_told, chained_told, TermsTold}
 use Rattle.certified_lines.proofs.Expressions.{two_told}
 use Rattle.certified_lines.proofs.Expressions.{more_told, exact_is}
-
-same_exact : (u v : ℤ) → ◌≡◌ {A = Bound} (Exactly u) (Exactly v) → u ≡ v
-same_exact u v is = cc
+use Rattle.certified_lines.proofs.Arithmetic.{first_of, less_small}
 
 -- ---- names
 
@@ -117,7 +116,7 @@ module _ (g : Scene) (top : ℕ) (es : List Entry) (scope : IsScope g top es) wh
           (λ o. is_pushed (meaning_in name es)) true (type_of_values kind) d
           (exact_value (bound_of_term es (Named name))) (sym (ap exact_value there))
           (λ e. of_values g top es kind d (ends d) refl)
-          (λ u same. subst (FitsSigned w32) (same_exact v u (sym exact ∙ same))
+          (λ u same. subst (FitsSigned w32) (exactly_same v u (sym exact ∙ same))
           (constant_housed g top (home_of g.homes es name) kind v (housed name (Constant kind (Some v)) means)))
           (λ none. absurd (cc (sym (ap (λ (b : Bound). exact_value (Ok b)) exact)
           ∙ (sym (ap exact_value there) ∙ none)))))
@@ -158,17 +157,6 @@ abbrev FirstTold : Scene → ℕ → List Entry → Expression → Type 0
 FirstTold g top es (Chained op (Two x y)) =
     (b : Bound) → type_of_term es x ≡ Ok types.Int → bound_of_term es x ≡ Ok b → TermTold g top es x types.Int b
 FirstTold g top es e = Unit {0}
-
-less_small : (g : Scene) (ps : List Piece) (t : ℕ) (leaf small kept : Bool) (r : Ends) (s : Told)
-    → (small ≡ true → kept ≡ true) → PushedFact g.setting ps t leaf kept r s → PushedFact g.setting ps t leaf small r s
-less_small g ps t leaf small kept r s further p = record {
-  after = p.after;
-  falls = p.falls;
-  a = p.a;
-  stay = p.stay;
-  below = λ is. p.below (further is);
-  alone = p.alone;
-}
 
 in_size : (size : ℕ) (r : Ends) → is_subscript size r ≡ true → (pos 0 ≤ℤ r.lo) × (r.hi <ℤ pos size)
 in_size size r is =
@@ -250,10 +238,6 @@ sum_further r q c is =
     let f = fitting_some (record { lo = r.lo +ℤ c; hi = r.hi +ℤ c }) q is in
     (sym (ap (λ (e : Ends). e.lo) f.same), sym (ap (λ (e : Ends). e.hi) f.same))
 
-both_first : (p q : Bool) → (p && q) ≡ true → p ≡ true
-both_first true q is = refl
-both_first false q is = absurd (cc is)
-
 int_terms : (op : ChainOperator) (p u : ExprType) → chain_type op p u ≡ Ok types.Int
     → (p ≡ types.Int) × (u ≡ types.Int)
 int_terms (chain.Arithmetic op) types.Int types.Int is = (refl, refl)
@@ -311,8 +295,8 @@ module _ (g : Scene) (top : ℕ) (es : List Entry) (size : ℕ) where
         select = subst (λ (r : Ends). Select size c r) (sym left.is)
             (first_selects x y b.0 d c found.low found.near gives several inside (subst IsRange left.is left.ranged));
         tells = λ t low few all s holds.
-            less_small g (term_code g.homes es t x) t (is_leaf_term es x) (is_small es (Chained op (Two x y)))
-            (is_small_term es x) left.range s (both_first (is_small_term es x) (is_leaf_term es y))
+            less_small g.setting (term_code g.homes es t x) t (is_leaf_term es x) (is_small es (Chained op (Two x y)))
+            (is_small_term es x) left.range s (first_of (is_small_term es x) (is_leaf_term es y))
             (left.tells t low few all s holds);
       }
 

@@ -41,6 +41,8 @@ use Rattle.certified_lines.proofs.Moving.{moved_bytes_are_known}
 use Rattle.certified_lines.proofs.Arrays.{spans_are_of_words}
 use Rattle.certified_lines.proofs.Telling.{few_counted}
 use Rattle.certified_lines.proofs.Elements.{both_near}
+use Rattle.certified_lines.proofs.Elements.{all_pass}
+use Rattle.certified_lines.proofs.Operands.{same_word}
 
 -- ---- the bytes of words
 
@@ -52,13 +54,6 @@ words_have : (word more : ℕ) → words_touched (pos (4 * word)) (end_of word (
 words_have word more =
     let same : end_of word (suc more) ≡ last_byte word more +ℤ pos 4 = omega (arith, ints) in
     ap (words_touched (pos (4 * word))) same ∙ spans_are_of_words.touched word more
-
--- a test that each of some words passes
-all_pass : (test : ℤ → Bool) (first count : ℕ) → ((n : ℕ) → n < count → test (pos (first + n)) ≡ true)
-    → all_words test (pos first) count ≡ true
-all_pass test first zero each = refl
-all_pass test first (suc more) each =
-    and_from _ _ (each more (omega arith)) (all_pass test first more (λ n less. each n (omega (arith, less))))
 
 bytes_pass : (test : ℤ → Bool) (word more : ℕ) → ((n : ℕ) → n < suc more → test (pos (word + n)) ≡ true)
     → all_words test (word_of_byte (pos (4 * word))) (words_touched (pos (4 * word)) (end_of word (suc more))) ≡ true
@@ -107,9 +102,6 @@ bytes_are_numbers g s word more each =
 
 -- ---- pointers and counts
 
-same_number : (z : ℤ) → is_same_number z z ≡ true
-same_number z = grind (arith, ints)
-
 exact_is : (word : ℕ) → 4 * word ≤ 16777216 → exact_pointer (word_pointer word)
     ≡ Ok (record { region = regions.Frame; lo = pos (4 * word); hi = pos (4 * word); step = WordStep })
 unfolding exact_pointer
@@ -118,11 +110,11 @@ exact_is word few =
     ap (λ (b : Bool). cond b (Ok (record { region = regions.Frame; lo = z; hi = z; step = WordStep }))
     (Err rules.Pointer))
     (and_from _ _ (both_near z z (omega (arith, ints)) (omega (arith, ints, few)) (omega (arith, ints))
-    (omega (arith, ints, few))) (same_number z))
+    (omega (arith, ints, few))) (same_word z))
 
 constant_count : (v : ℤ) → constant_of (Number v v) ≡ Ok v
 unfolding constant_of
-constant_count v = ap (λ (b : Bool). cond b (Ok v) (Err rules.Number)) (same_number v)
+constant_count v = ap (λ (b : Bool). cond b (Ok v) (Err rules.Number)) (same_word v)
 
 no_zero : (n : ℕ) → 0 < n → is_same_number (pos n) (pos 0) ≡ false
 no_zero n some = grind (arith, ints)

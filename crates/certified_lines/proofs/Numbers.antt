@@ -25,7 +25,7 @@ use Rattle.certified_lines.proofs.Instructions.{shifted_words_are_known}
 
 -- ---- numbers have ranges
 
-range_told : (r : Ends) → IsRange r → range_of (number_in r) ≡ Some r
+pub range_told : (r : Ends) → IsRange r → range_of (number_in r) ≡ Some r
 range_told r is = (words_in_order_are_ranges r.lo r.hi r).1 (is, refl, refl)
 
 known_range : (k : Known) (r : Ends) → IsNumberIn k r → range_of k.fact ≡ Some r

@@ -82,7 +82,7 @@ next_is t few = omega (arith, few)
 
 -- ---- a word that is stored stays alone
 
-same_word : (k : ℤ) → is_same_number k k ≡ true
+pub same_word : (k : ℤ) → is_same_number k k ≡ true
 same_word k = grind (arith, ints)
 
 before_word : (t k : ℕ) → k < t → is_same_number (pos k) (pos t) ≡ false

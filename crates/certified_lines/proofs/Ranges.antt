@@ -61,6 +61,13 @@ not_ranged r is = unary_gives_ranges unary.Not r (not_range r) is refl
 pub constant_ranged : (v : ℤ) → FitsSigned w32 v → IsRange (ranges.constant v)
 constant_ranged v fits = record { lo_fits = fits; hi_fits = fits; ordered = omega (arith, ints) }
 
+pub full_ranged : IsRange full
+full_ranged = record {
+  lo_fits = omega (arith, ints);
+  hi_fits = omega (arith, ints);
+  ordered = omega (arith, ints);
+}
+
 -- ---- either order
 
 min_turned : (a b : ℤ) → int_min a b ≡ int_min b a

@@ -23,9 +23,9 @@ use Rattle.states.specs.declared.known.Source.{Source}
 use Rattle.states.specs.declared.known.Source.TheVariants.{Nowhere, From, Test}
 use Rattle.states.specs.declared.known.WordFact.TheVariants.{Alone}
 use Rattle.states.specs.Frames.{with_alone}
-use Rattle.states.specs.State.{Facts, is_same_number}
+use Rattle.states.specs.State.{Facts}
 use Rattle.rulings.proofs.Words.{word_test}
-use Rattle.local_rules.specs.WordRules.{number_in, range_of, own_range, constant_in, narrowed_words, same, test_of}
+use Rattle.local_rules.specs.WordRules.{number_in, own_range, constant_in, narrowed_words, same, test_of}
 use Rattle.local_rules.specs.WordRules.{known_constant, word_as_known, greater_source, equal_source, result_source}
 use Rattle.scalar_ranges.specs.Narrowing.{as_holds, turned}
 use Rattle.code_pieces.specs.declared.operations.TheConstants.{GREATER, REVERSE}
@@ -40,11 +40,13 @@ use Rattle.certified_lines.specs.TestLaws.{OneWordIs}
 use Rattle.certified_lines.proofs.StraightRules.{fall_both}
 use Rattle.certified_lines.proofs.Instructions.{constants_are_known, loaded_words_are_known, registers_are_reversed}
 use Rattle.certified_lines.proofs.Numbers.{results_lie_in_ranges, comparisons_are_truths, greater_words_are_told}
+use Rattle.certified_lines.proofs.Numbers.{range_told}
 use Rattle.certified_lines.proofs.Numbers.{lesser_words_are_told, equal_words_are_told, opposites_are_told}
 use Rattle.certified_lines.proofs.Numbers.{nothing_is_told_from_nowhere}
 use Rattle.certified_lines.proofs.Named.{operands_name}
 use Rattle.certified_lines.proofs.Ranges.{constant_ranged, checked_by}
 use Rattle.certified_lines.proofs.Comparing.{greater_range, truths_ranged, zero_fits, above_fits, below_fits}
+use Rattle.certified_lines.proofs.Operands.{same_word}
 
 -- ---- tests of a word
 
@@ -109,16 +111,10 @@ by_above_next v d r fits next false =
 
 -- ---- words that are narrowed
 
-range_is : (r : Ends) → IsRange r → range_of (number_in r) ≡ Some r
-range_is r is = (words_in_order_are_ranges r.lo r.hi r).1 (is, refl, refl)
-
-here_is : (k : ℤ) → is_same_number k k ≡ true
-here_is k = grind (arith, ints)
-
 -- a word that is tested
 word_is_alone : (w : ℕ) (q r : Ends) (f : Facts) → OneWordIs w q f (with_alone (pos w) (number_in q) f)
 word_is_alone w q r f = record {
-  there = ap (λ (b : Bool). cond b (Alone (number_in q)) (f (pos w))) (here_is (pos w));
+  there = ap (λ (b : Bool). cond b (Alone (number_in q)) (f (pos w))) (same_word (pos w));
   others = λ k apart. elim (word_test k (pos w)) [
     | inl here ↦ absurd (apart here.1)
     | inr other ↦ ap (λ (b : Bool). cond b (Alone (number_in q)) (f k)) other.0
@@ -135,7 +131,7 @@ pub narrows_by : (w : ℕ) (r : Ends) (f : Facts) (inside : Bool) (o : Option En
 unfolding narrowed_words
 narrows_by w r f inside None ranged is tested holds = record { there = is; others = λ k apart. refl }
 narrows_by w r f inside (Some q) ranged is tested holds =
-    let own : own_range (f (pos w)) ≡ Some r = ap own_range is ∙ range_is r ranged in
+    let own : own_range (f (pos w)) ≡ Some r = ap own_range is ∙ range_told r ranged in
     let left : Ends = left_by (same inside holds) r q in
     subst (λ (g : Facts). OneWordIs w left f g)
     (sym (ap (λ (o : Option Ends). elim o as (λ o. Facts) [
@@ -214,7 +210,7 @@ tests_above w (Some r) = refl
 constant_is : (v : ℤ) → FitsSigned w32 v → constant_in (Number v v) ≡ Some v
 constant_is v fits =
     ap (λ (o : Option Ends). elim o as (λ o. Option ℤ) [ None ↦ None | Some r ↦ only_number r ])
-    (range_is (ranges.constant v) (constant_ranged v fits))
+    (range_told (ranges.constant v) (constant_ranged v fits))
     ∙ ap (λ (b : Bool). cond b (Some v) None) ((Decides-int_eq v v).1 refl)
 
 -- what is known of a word that is pushed

@@ -9,7 +9,7 @@ pub mod Scopes
 pub mod Telling
 pub mod TellingLaws
 pub mod OperandLaws
-pub mod ChainTells
+pub mod ChainLaws
 pub mod ElementLaws
 pub mod ExpressionLaws
 pub mod TestLaws

@@ -24,7 +24,7 @@ ghost use Rattle.certified_lines.specs.ElementLaws.{KnownWordsTell, WordsTell, K
 ghost use Rattle.certified_lines.specs.ElementLaws.{KnownItemsTell, ItemsTell};
 ghost use Rattle.certified_lines.specs.OperandLaws.{BothTell, OperationsTell, ArithmeticTells, ComparisonsTell};
 ghost use Rattle.certified_lines.specs.OperandLaws.{PrefixesTell, FirstTwoTell, OneMoreTells};
-ghost use Rattle.certified_lines.specs.ChainTells.{TermsTell};
+ghost use Rattle.certified_lines.specs.ChainLaws.{TermsTell};
 ghost use Rattle.certified_lines.specs.ExpressionLaws.{ExpressionsTell};
 ghost use Rattle.certified_lines.specs.Jumps.{JumpsFork};
 ghost use Rattle.certified_lines.specs.NarrowedScopes.{ChangedScopesHold, TestedScopesHold};
