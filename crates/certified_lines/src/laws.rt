@@ -59,8 +59,8 @@ pub fn operators_are_told()
     ensures shifted { ShiftedWordsAreKnown }
 {}
 
-/// What is read and left at an address that may lead to several words or bytes is known, and so is another address that
-/// is made of it.
+/// What is read and left at an address that may lead to several words or bytes is known, and so is another address
+/// that is made of it.
 #[tactic(auto, using(crate::proofs::Addresses::addresses))]
 pub fn addresses_are_told()
     ensures further { FurtherAddressesAreKnown }
@@ -118,8 +118,8 @@ pub fn straight_pieces_walk()
 {}
 
 /// Any of some words that are numbers in a range is one. Where a number may have been stored, a word that may be any
-/// number stays so, and other words are known as before. A pointer to the words of the frame from one to another reads
-/// any of them, and a store through it may change these.
+/// number stays so, and other words are known as before. A pointer to the words of the frame from one to another
+/// reads any of them, and a store through it may change these.
 #[tactic(auto, using(crate::proofs::Arrays::arrays))]
 pub fn words_stay_known()
     ensures any { AnyOfNumbersIsOne }
@@ -129,8 +129,8 @@ pub fn words_stay_known()
     ensures spans { SpansAreOfWords }
 {}
 
-/// What a scope says of words stays known while the words before the first free one stay. A constant and a scalar that
-/// are pushed have exactly the range that the scope says.
+/// What a scope says of words stays known while the words before the first free one stay. A constant and a scalar
+/// that are pushed have exactly the range that the scope says.
 pub fn leaves_are_told()
     ensures stays { ScopesStay }
     ensures constants { ConstantsTell }
@@ -147,8 +147,8 @@ pub fn elements_are_told()
     ensures items { ItemsTell }
 {}
 
-/// Two operands are pushed in order, or in any. What an operator makes of two numbers has exactly the range that it has of
-/// theirs; what a comparison makes of them is 0 or 1.
+/// Two operands are pushed in order, or in any. What an operator makes of two numbers has exactly the range that it
+/// has of theirs; what a comparison makes of them is 0 or 1.
 pub fn operands_are_told()
     ensures both { BothTell }
     ensures operations { OperationsTell }
@@ -157,24 +157,24 @@ pub fn operands_are_told()
     ensures prefixes { PrefixesTell }
 {}
 
-/// What a chain makes of its operands has the range that its operator has of theirs, from the left. Where its front is a
-/// constant, that is pushed.
+/// What a chain makes of its operands has the range that its operator has of theirs, from the left. Where its front
+/// is a constant, that is pushed.
 pub fn chains_are_told()
     ensures first { FirstTwoTell }
     ensures more { OneMoreTells }
     ensures whole { TermsTell }
 {}
 
-/// The code of a well typed expression breaks no rule. Where exactly that is known of the words of a scope which the scope
-/// says, it leaves in A a number of which exactly the bound is known that the compiler has for it; of a condition, that it
-/// is 0, 1 or either.
+/// The code of a well typed expression breaks no rule. Where exactly that is known of the words of a scope which the
+/// scope says, it leaves in A a number of which exactly the bound is known that the compiler has for it; of a
+/// condition, that it is 0, 1 or either.
 pub fn expressions_are_told()
     ensures expressions { ExpressionsTell }
 {}
 
-/// The code of a comparison of a scalar with a constant leaves a truth that narrows the word of the scalar as the condition
-/// does its range, where it holds and where it does not. No other condition narrows a word of the scope: one to whose truth
-/// 0 is added, a chain of conditions, and a comparison that may show nothing of a word.
+/// The code of a comparison of a scalar with a constant leaves a truth that narrows the word of the scalar as the
+/// condition does its range, where it holds and where it does not. No other condition narrows a word of the scope:
+/// one to whose truth 0 is added, a chain of conditions, and a comparison that may show nothing of a word.
 pub fn conditions_are_told()
     ensures tests { ComparisonsTest }
     ensures others { SourcesAreForgotten }
@@ -183,15 +183,15 @@ pub fn conditions_are_told()
     ensures quiet { QuietTruthsNarrowNothing }
 {}
 
-/// Where of the word of a scalar another range is known, a scope is held in which the scalar has that one, if no other name
-/// has the word. So a scope is held that is narrowed by a condition, where it holds and where it does not.
+/// Where of the word of a scalar another range is known, a scope is held in which the scalar has that one, if no
+/// other name has the word. So a scope is held that is narrowed by a condition, where it holds and where it does not.
 pub fn narrowed_scopes_are_held()
     ensures changed { ChangedScopesHold }
     ensures tested { TestedScopesHold }
 {}
 
-/// A conditional jump breaks no rule where A is a number and the row where it leads knows as much or less. Where it falls
-/// words are known as the truth in A shows them, and where it leads as its opposite does.
+/// A conditional jump breaks no rule where A is a number and the row where it leads knows as much or less. Where it
+/// falls words are known as the truth in A shows them, and where it leads as its opposite does.
 #[tactic(auto, using(crate::proofs::Jumps::jumps_fork))]
 pub fn jumps_are_told()
     ensures { JumpsFork }
