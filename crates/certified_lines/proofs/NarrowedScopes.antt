@@ -9,24 +9,54 @@ use Rattle.occam_parser.specs.declared.tree.ValueType.{ValueType}
 use Rattle.states.specs.State.{Facts}
 use Rattle.scalar_ranges.specs.declared.scope.ScalarKind.{ScalarKind}
 use Rattle.scalar_ranges.specs.Entries.{Meaning, Constant, Scalar, Array, Channel, Channels, Procedure, Entry}
-use Rattle.scalar_ranges.specs.Entries.{meaning_in, number_in}
+use Rattle.scalar_ranges.specs.Entries.{meaning_in, number_in as number_of_name}
 use Rattle.scalar_ranges.specs.Narrowing.{Tested, changed, with_range, left_of, as_holds, by_test}
 use Rattle.line_pieces.specs.Homes as home
 use Rattle.line_pieces.specs.Homes.{Home, Nowhere, Word, Block, Link, Passed, home_of}
 use Rattle.certified_lines.specs.Scopes.{Scene, EachNameHas, AreKnownThere, HoldsScope, IsHousedThere}
 use Rattle.certified_lines.specs.TestLaws.{OneWordIs, where_it}
-use Rattle.certified_lines.specs.NarrowedScopes.{IsBesideThere, AreBeside, ChangedScopesHold, TestedScopesHold}
+use Rattle.certified_lines.specs.NarrowedScopes.{IsBesideThere, AreBeside, OneWordBecomes, ChangedScopesHold}
+use Rattle.certified_lines.specs.NarrowedScopes.{StoredScalarsAreHeld, TestedScopesHold}
+use Rattle.certified_lines.specs.Scopes.{IsNumber, loop_of}
+use Rattle.certified_lines.specs.StraightRules.{Told}
+use Rattle.certified_lines.specs.Instructions.{is_told, with_word, without_a}
+use Rattle.certified_lines.proofs.Instructions.{stored_words_are_known}
+use Rattle.certified_lines.proofs.Operands.{stored_by, stored_there}
+use Rattle.certified_lines.proofs.Telling.{few_counted}
+use Rattle.rulings.proofs.Words.{word_test}
+use Rattle.local_rules.specs.WordRules.{number_in}
+use Rattle.module_format.specs.Rows.{Fact}
+use Rattle.states.specs.declared.known.WordFact.{WordFact}
+use Rattle.states.specs.declared.known.WordFact.TheVariants.{Alone, Index, Count}
+use Rattle.states.specs.State.{is_at, is_parted, is_same_number, with_fact}
+use Rattle.std.proofs.Common.{inl, inr, ◌-ℤ◌, arith}
+use Rattle.std.proofs.lemmas.Int.{ints}
+use Rattle.word_arithmetic.specs.Range.{full}
 use Rattle.certified_lines.proofs.Telling.{each_has, name_has}
 use Rattle.certified_lines.proofs.Conditions.{comparisons_test}
 
 -- ---- other names
 
-same_word : (v w : ℕ) → pos v ≡ pos w → v ≡ w
-same_word v w same = cc
+one_word : (v w : ℕ) → pos v ≡ pos w → v ≡ w
+one_word v w same = cc
 
-module _ (g : Scene) (w : ℕ) (q : Ends) (old new : Facts) (one : OneWordIs w q old new) where
-  word_stays : (v : ℕ) → (v ≡ w → ⊥) → new (pos v) ≡ old (pos v)
-  word_stays v apart = one.others (pos v) (λ same. apart (same_word v w same))
+other_word : (v w : ℕ) → (v ≡ w → ⊥) → is_same_number (pos v) (pos w) ≡ false
+other_word v w apart = elim (word_test (pos v) (pos w)) [
+  | inl same ↦ absurd (apart (one_word v w same.1))
+  | inr other ↦ other.0
+]
+
+module _ (g : Scene) (w : ℕ) (q : Ends) (old new : Facts) (one : OneWordBecomes w q old new) where
+  -- a word that is in no loop with the other one
+  word_stays : (v : ℕ) (fact : WordFact) → (v ≡ w → ⊥) → old (pos v) ≡ fact
+      → is_parted (is_at (pos w)) (pos v) fact ≡ false → new (pos v) ≡ fact
+  word_stays v fact apart is whole =
+      one.others (pos v) (λ same. apart (one_word v w same))
+      (ap (λ (f : WordFact). is_parted (is_at (pos w)) (pos v) f) is ∙ whole)
+      ∙ is
+
+  alone_stays : (v : ℕ) (r : Ends) → (v ≡ w → ⊥) → IsNumber old v r → IsNumber new v r
+  alone_stays v r apart is = word_stays v (Alone (number_in r)) apart is refl
 
   beside_stays : (h : Option Home) (k : Meaning) → AreKnownThere g old h k → IsBesideThere w h k
       → AreKnownThere g new h k
@@ -36,16 +66,20 @@ module _ (g : Scene) (w : ℕ) (q : Ends) (old new : Facts) (one : OneWordIs w q
   beside_stays (Some h) (Channels type size) is apart = is
   beside_stays (Some h) (Procedure number) is apart = is
   beside_stays (Some Nowhere) (Scalar kind type range) is apart = is
-  beside_stays (Some (Word v)) (Scalar kind type range) is apart = word_stays v apart ∙ is
+  beside_stays (Some (Word v)) (Scalar kind type range) is apart = alone_stays v range apart is
   beside_stays (Some (Block v head)) (Scalar kind type range) is apart =
-      (word_stays v apart.0 ∙ is.0, word_stays (v + 1) apart.1 ∙ is.1)
+      let back : pos (v + 1) -ℤ pos 1 ≡ pos v = omega (arith, ints) in (
+        word_stays v (Index (loop_of g head range)) apart.0 is.0 (other_word (v + 1) w apart.1),
+        word_stays (v + 1) (Count (loop_of g head range)) apart.1 is.1
+            (ap (λ (z : ℤ). is_same_number z (pos w)) back ∙ other_word v w apart.0),
+      )
   beside_stays (Some (Link n)) (Scalar kind type range) is apart = is
   beside_stays (Some (home.Table values)) (Scalar kind type range) is apart = is
   beside_stays (Some (Passed v)) (Scalar kind type range) is apart = is
   beside_stays (Some Nowhere) (Array kind type size range) is apart = is
   beside_stays (Some (Word v)) (Array kind type None range) is apart = is
   beside_stays (Some (Word v)) (Array kind type (Some size) range) is apart =
-      λ n less. word_stays (v + n) (apart n less) ∙ is n less
+      λ n less. alone_stays (v + n) full (apart n less) (is n less)
   beside_stays (Some (Block v head)) (Array kind type size range) is apart = is
   beside_stays (Some (Link n)) (Array kind type size range) is apart = is
   beside_stays (Some (home.Table values)) (Array kind type size range) is apart = is
@@ -65,7 +99,7 @@ changed_long f name [] = refl
 changed_long f name (e ∷ es) = changed_by (bytes_eq e.name name) f name e es (changed_long f name es)
 
 module _ (g : Scene) (name : List ℕ) (w : ℕ) (kind : ScalarKind) (type : ValueType) (range : Ends) (f : Ends → Ends)
-    (old new : Facts) (one : OneWordIs w (f range) old new) where
+    (old new : Facts) (one : OneWordBecomes w (f range) old new) where
   scalar_holds : (o : Option Home) (k : Meaning) → o ≡ Some (Word w) → k ≡ Scalar kind type range
       → AreKnownThere g new o (with_range f k)
   scalar_holds o k at means =
@@ -74,7 +108,7 @@ module _ (g : Scene) (name : List ℕ) (w : ℕ) (kind : ScalarKind) (type : Val
 
   entry_holds : (b : Bool) (e : Entry) (es : List Entry)
       → cond b (Some e.meaning) (meaning_in name es) ≡ Some (Scalar kind type range)
-      → option_and_then (slice_get g.homes) (cond b (Some (length es)) (number_in name es)) ≡ Some (Word w)
+      → option_and_then (slice_get g.homes) (cond b (Some (length es)) (number_of_name name es)) ≡ Some (Word w)
       → (elim b as (λ b. Type 0) [
         | true ↦ EachNameHas (IsBesideThere w) g.homes es
         | false ↦ IsBesideThere w (slice_get g.homes (length es)) e.meaning × AreBeside g.homes w name es
@@ -109,7 +143,30 @@ pub changed_scopes_hold : ChangedScopesHold
 changed_scopes_hold g es name w kind type range f old new means at beside holds one =
     names_hold g name w kind type range f old new one es means at beside holds
 
+-- ---- stores
+
+stored_others : (w : ℕ) (fact : Fact) (f : Facts) (k : ℤ) → (k ≡ pos w → ⊥)
+    → is_parted (is_at (pos w)) k (f k) ≡ false → with_fact (pos w) fact f k ≡ f k
+stored_others w fact f k apart whole = elim (word_test k (pos w)) [
+  | inl same ↦ absurd (apart same.1)
+  | inr other ↦ stored_by (is_at (pos w) k) (is_parted (is_at (pos w)) k (f k)) fact (f k) other.0 whole
+]
+
+pub stored_scalars_are_held : StoredScalarsAreHeld
+stored_scalars_are_held g es name w kind type range q before few may means at beside holds is =
+    let after : Told = without_a (with_word w before.stack.a.fact before) in (
+      after,
+      stored_words_are_known g.setting w before (few_counted w few) may (ap is_told is),
+      changed_scopes_hold g es name w kind type range (λ r. q) before.frame after.frame means at beside holds (record {
+        there = stored_there w before.stack.a.fact before.frame ∙ ap (λ (f : Fact). Alone f) is;
+        others = stored_others w before.stack.a.fact before.frame;
+      }),
+    )
+
 -- ---- conditions
+
+becomes : {w : ℕ} {r : Ends} {old new : Facts} → OneWordIs w r old new → OneWordBecomes w r old new
+becomes one = record { there = one.there; others = λ k apart whole. one.others k apart }
 
 left_is : (c : Comparison) (v : ℤ) (r : Ends) → IsRange r → left_of c v r ≡ narrowed c v r
 left_is c v r ranged =
@@ -128,6 +185,6 @@ tested_scopes_hold g top t w es e type b test kind of range before scope words t
           subst (λ (o : Option Tested). HoldsScope g (by_test es it o) (where_it it shown.after)) (sym tests)
           (changed_scopes_hold g es test.name w kind of range f before.frame (where_it it shown.after) means at beside
           holds
-          (subst (λ (q : Ends). OneWordIs w q before.frame (where_it it shown.after))
-          (sym (left_is (as_holds it test.comparison) test.constant range house.0)) (shown.narrows it))),
+          (subst (λ (q : Ends). OneWordBecomes w q before.frame (where_it it shown.after))
+          (sym (left_is (as_holds it test.comparison) test.constant range house.0)) (becomes (shown.narrows it)))),
     )

@@ -99,7 +99,7 @@ not_parted t k (Alone fact) less whole = refl
 not_parted t k (Index loop) less whole = before_in_loop t k (omega (arith, whole))
 not_parted t k (Count loop) less whole = count_before t k less
 
-stored_by : (here parted : Bool) (fact : Fact) (w : WordFact) → here ≡ false → parted ≡ false
+pub stored_by : (here parted : Bool) (fact : Fact) (w : WordFact) → here ≡ false → parted ≡ false
     → cond here (Alone fact) (cond parted (Alone (by_itself w)) w) ≡ w
 stored_by true parted fact w away apart = absurd (cc away)
 stored_by false true fact w away apart = absurd (cc apart)

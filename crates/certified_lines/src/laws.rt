@@ -27,7 +27,7 @@ ghost use Rattle.certified_lines.specs.OperandLaws.{PrefixesTell, FirstTwoTell, 
 ghost use Rattle.certified_lines.specs.ChainLaws.{TermsTell};
 ghost use Rattle.certified_lines.specs.ExpressionLaws.{ExpressionsTell};
 ghost use Rattle.certified_lines.specs.Jumps.{JumpsFork};
-ghost use Rattle.certified_lines.specs.NarrowedScopes.{ChangedScopesHold, TestedScopesHold};
+ghost use Rattle.certified_lines.specs.NarrowedScopes.{ChangedScopesHold, StoredScalarsAreHeld, TestedScopesHold};
 ghost use Rattle.certified_lines.specs.TestLaws.{ComparisonsTest, SourcesAreForgotten, ChainsTellNothing};
 ghost use Rattle.certified_lines.specs.TestLaws.{ComparisonsShowNothing, QuietTruthsNarrowNothing};
 
@@ -184,9 +184,11 @@ pub fn conditions_are_told()
 {}
 
 /// Where of the word of a scalar another range is known, a scope is held in which the scalar has that one, if no
-/// other name has the word. So a scope is held that is narrowed by a condition, where it holds and where it does not.
+/// other name has the word. So it is where a number is stored there, and so a scope is held that is narrowed by a
+/// condition, where it holds and where it does not.
 pub fn narrowed_scopes_are_held()
     ensures changed { ChangedScopesHold }
+    ensures stored { StoredScalarsAreHeld }
     ensures tested { TestedScopesHold }
 {}
 
