@@ -339,4 +339,3 @@ formals_linked outer (f ∷ fs) es ps links linked =
     (linked_more ps (port_for f) (record { name = f.name; meaning = with_range (λ r. full) m }) (shape es) linked
     (subst IsOwn (sym flat) tt)
     (λ p is. flat ∙ ap Channel (port_of_formal f p (link_way f.name) refl is))))
-

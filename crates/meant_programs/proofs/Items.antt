@@ -30,7 +30,6 @@ use Rattle.program_meaning.specs.GoingWell.{IsTrueIn}
 use Rattle.usage_checks.specs.MainRules.{is_main, is_main_name, are_links}
 use Rattle.usage_checks.specs.Reaching.{Comes}
 use Rattle.usage_checks.specs.Sizes.{Measured, measures_of_item}
-use Rattle.usage_checks.proofs.ActionsGoWell as going
 use Rattle.usage_checks.proofs.PlacesHold.{Unbroken, items_hold}
 use Rattle.usage_checks.proofs.ProcessesGoWell.{known_declaration}
 use Rattle.code_pieces.specs.Pieces.{Code, Piece}
@@ -45,11 +44,13 @@ use Rattle.meant_lines.specs.Carrying.{Carries}
 use Rattle.meant_lines.specs.Opening.{Opened}
 use Rattle.meant_lines.proofs.Declaring.{new_names_are_carried}
 use Rattle.meant_lines.proofs.Opening.{declarations_are_carried}
-use Rattle.meant_processes.specs.Places.{IsOwn}
 use Rattle.meant_programs.specs.Mains.{grounded, before_main, MainIsFound}
 use Rattle.meant_programs.specs.Mains.{IsFixed}
 use Rattle.meant_programs.proofs.MainPlaces.{all_own}
 use Rattle.scalar_ranges.specs.declared.scope.ArrayKind.TheVariants as array
+use Rattle.meant_processes.specs.Channels.{DeclaresNoChannel}
+use Rattle.meant_programs.specs.Mains.{MainDeclaresNoChannel}
+use Rattle.meant_programs.proofs.Globals.{IsGlobal}
 use Rattle.meant_programs.proofs.Globals.{Before, weighed_before, item_after, procedure_leaves, last_of}
 use Rattle.meant_programs.proofs.Globals.{last_is_main, globals_own}
 

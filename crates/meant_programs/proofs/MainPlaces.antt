@@ -2,7 +2,7 @@
 use Rattle.std.proofs.Common.{◌≡◌, ℕ, zero, suc, ◌+◌, ◌-◌, ◌<◌, ◌≤◌, Bool, true, false, cond, List, [], ◌∷◌, ◌++◌, length, map, Option}
 use Rattle.std.proofs.Common.{Some, None, refl, sym, subst, ap, arith, ◌∙◌, append_assoc}
 use Rattle.std.proofs.lemmas.Bool.{le-leb, lt-ltb, leb-true}
-use Rattle.std.specs.Prelude.{nat_eq, nat_le, nat_lt, ◌&&◌, option_map}
+use Rattle.std.specs.Prelude.{nat_eq, nat_le, ◌&&◌, option_map}
 use Rattle.word_arithmetic.specs.Range.{full}
 use Rattle.occam_parser.specs.declared.tree.ValueType.{ValueType}
 use Rattle.occam_parser.specs.declared.tree.FormalKind.{FormalKind}
@@ -178,9 +178,11 @@ formals_are_housed hs outer [] es links housed = housed
 formals_are_housed hs outer (f ∷ fs) es links housed =
     let both = and_parts (is_link_as f.kind f.size f.name) (are_links fs) links in
     let means = link_means outer f.kind f.size f.value_type f.name both.0 in
-    formals_are_housed hs outer fs (add f.name (formal_meaning outer f) es) both.1
-    (subst (λ m. IsHoused (slice_get hs (length (shape es))) (with_range (λ r. full) m)) (sym means)
-    (channel_housed (slice_get hs (length (shape es))) f.value_type), housed)
+    formals_are_housed hs outer fs (add f.name (formal_meaning outer f) es) both.1 (
+      subst (λ m. IsHoused (slice_get hs (length (shape es))) (with_range (λ r. full) m)) (sym means)
+          (channel_housed (slice_get hs (length (shape es))) f.value_type),
+      housed,
+    )
 
 -- ---- which channels are links
 
@@ -231,8 +233,8 @@ way_there formal_kind.Channel None name is = by_way (link_way name) is refl
   where
     by_way : (o : Option Direction) → is_link_name o ≡ true → link_way name ≡ o
         → (way : Direction) × (link_way name ≡ Some way)
-    by_way None no same = absurd (cc no)
-    by_way (Some way) yes same = (way, same)
+    by_way None linked same = absurd (cc linked)
+    by_way (Some way) linked same = (way, same)
 way_there formal_kind.Channel (Some e) name is = absurd (cc is)
 way_there formal_kind.Value size name is = absurd (cc is)
 way_there formal_kind.Variable size name is = absurd (cc is)

@@ -14,7 +14,7 @@ use Rattle.module_builder.specs.Layouts.{offset}
 use Rattle.occam_parser.specs.Blocks.{ProgramItem}
 use Rattle.scalar_ranges.specs.Environments.{Environment}
 use Rattle.usage_checks.specs.ItemRules.{BreaksNoRule, in_body}
-use Rattle.usage_checks.specs.Reaching.{in_procedure, to_body}
+use Rattle.usage_checks.specs.Reaching.{to_body}
 use Rattle.code_pieces.specs.declared.operations.TheConstants.{STOP_PROCESS}
 use Rattle.code_pieces.specs.Pars.{in_root}
 use Rattle.code_pieces.specs.Pieces.{Code, Piece, constant, operates}

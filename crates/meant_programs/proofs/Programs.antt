@@ -1,6 +1,4 @@
 -- A module of a program's code runs as the program means.
-use Rattle.std.proofs.Common.{List}
-use Rattle.code_pieces.specs.Pieces.{Piece}
 use Rattle.code_pieces.specs.Laying.{apart, words_taken}
 use Rattle.code_pieces.specs.LaidModule.{laid_module}
 use Rattle.placed_code.specs.Closing.{first_point}

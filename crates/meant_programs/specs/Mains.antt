@@ -1,5 +1,5 @@
 -- Where main of a program is: what is known there, what names hold, and what memory carries of them.
-use Rattle.std.specs.Prelude.{◌≡◌, true, ℕ, pos, Bool, List, [], length, None, Some}
+use Rattle.std.specs.Prelude.{◌≡◌, true, ℕ, pos, Bool, List, [], ◌∷◌, length, None, Some}
 use Rattle.std.specs.List.{AllByRecursion}
 use Rattle.machine_state.specs.Memory.{Memory}
 use Rattle.occam_parser.specs.Blocks.{Procedure, ProgramItem, GlobalConstant, GlobalProcedure}
