@@ -20,7 +20,6 @@ use Rattle.program_uses.specs.Signatures.{Parameter, parameters_in}
 use Rattle.usage_checks.specs.AfterProcesses.{after_body, after_components, begun, begun_body, ended}
 use Rattle.usage_checks.specs.ItemRules.{Outside, after_item, around_in, weighed, outermost}
 use Rattle.code_pieces.specs.Pieces.{Code, Jump, JumpUnless, Piece, Row, before, closed_by, operates, then_code}
-use Rattle.code_pieces.specs.Pieces.{written}
 use Rattle.code_pieces.specs.declared.operations.TheConstants.{STOP_PROCESS}
 use Rattle.code_pieces.specs.declared.piece.RowEntry.{RowEntry}
 use Rattle.line_pieces.specs.Actions.{stop_code, may_show, assign_code, forgets, input_code, output_code, test_code}

@@ -39,14 +39,14 @@ use Rattle.line_pieces.specs.Declarations.{Frame, declaration_code, spread, word
 use Rattle.line_pieces.specs.Expressions.{Operand, Subscript, added_by, added_for, address_code, adds_or}
 use Rattle.line_pieces.specs.Expressions.{after_constant, back, before_offset, beside, both}
 use Rattle.line_pieces.specs.Expressions.{byte_address, chain_operation, comes_last, comparison_code, constant_or}
-use Rattle.line_pieces.specs.Expressions.{covered, element_code, element_of_words, equality_code, exchanged}
-use Rattle.line_pieces.specs.Expressions.{expression_code, first_code, first_of_terms, first_two, is_byte_reference}
+use Rattle.line_pieces.specs.Expressions.{covered, element_code, element_of_table, element_of_words, equality_code}
+use Rattle.line_pieces.specs.Expressions.{exchanged, expression_code, first_code, first_of_terms, first_two}
 use Rattle.line_pieces.specs.Expressions.{is_known, is_small, is_small_term, known_address, loads_at, negated_unless}
 use Rattle.line_pieces.specs.Expressions.{negates, next_above, next_below, offset_of, onto, or_zero, pair_code}
 use Rattle.line_pieces.specs.Expressions.{pair_operation, prefix_code, pushed, pushes_of, scalar_code, single}
 use Rattle.line_pieces.specs.Expressions.{subscript_code, subscript_of, term_code, terms_code, truth}
 use Rattle.line_pieces.specs.Expressions.{unless, unless_added, without, comparison_pushes, on_constant}
-use Rattle.line_pieces.specs.Expressions.{below_constant, equality_pushes}
+use Rattle.line_pieces.specs.Expressions.{below_constant, equality_pushes, is_byte_reference}
 use Rattle.line_pieces.specs.Homes.{Block, Home, Link, Passed, Table, Word, home_of}
 use Rattle.code_generator.specs.Instances.{bindings_code, binding_code, bound, cleaning_code, meaning_at}
 use Rattle.code_generator.specs.Instances.{passed_target}
