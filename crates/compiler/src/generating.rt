@@ -11,8 +11,8 @@ ghost use Rattle.compiler.specs.Compiled.{IsGenerated, IsTooLarge};
 use crate::links::link_lengths;
 use certified_code::certified_module_of;
 use code_generator::code_of;
-use module_builder::GenFault;
 use code_pieces::Piece;
+use module_builder::GenFault;
 use std::alloc::Global;
 use usage_checks::CheckedProgram;
 
