@@ -17,7 +17,6 @@ use Rattle.occam_parser.specs.declared.tree.ChainOperator.TheVariants as chain
 use Rattle.occam_parser.specs.Expressions.{Expression, Alone, Prefixed, Paired, Chained, Terms, Two, Then}
 use Rattle.occam_parser.specs.Expressions.{Element}
 use Rattle.scalar_ranges.specs.declared.scope.ArrayKind.{ArrayKind}
-use Rattle.scalar_ranges.specs.declared.scope.ArrayKind.TheVariants as arrays
 use Rattle.scalar_ranges.specs.declared.types.ExprType.{ExprType}
 use Rattle.scalar_ranges.specs.declared.types.ExprType.TheVariants as types
 use Rattle.scalar_ranges.specs.Bounds.{Bound, ends, bound_of, bound_of_term, exact_value, range_found}
@@ -37,7 +36,7 @@ use Rattle.line_pieces.specs.Homes as home
 use Rattle.line_pieces.specs.Homes.{Home, Nowhere, Word, Block, Link, Passed, home_of}
 use Rattle.line_pieces.specs.Expressions.{Subscript, single, offset_of, offset_of_terms, offset_or_none, added_by}
 use Rattle.line_pieces.specs.Expressions.{greatest_offset, without, or_zero, before_offset, subscript_code, loads_at}
-use Rattle.line_pieces.specs.Expressions.{element_of_words, table_element, are_passed_bytes}
+use Rattle.line_pieces.specs.Expressions.{element_of_words, element_of_table}
 use Rattle.line_pieces.specs.Expressions.{element_code, first_code, expression_code, is_leaf, is_small, subscript_of}
 use Rattle.line_pieces.specs.Expressions.{term_code}
 use Rattle.meant_lines.specs.Carrying.{Ground, IsKeptThere, Carries}
@@ -241,26 +240,17 @@ module _ (g : Ground) (top t : ℕ) (es : List Entry) (env : Environment) (holds
         (λ k kept. whole (first_stand g s.whole (subscript_code value_type.Byte w)
         (first_stand g code (operates LOAD_BYTE ∷ []) stand)) k kept) h carries
 
-    table_by : (passed : Bool) (values : List ℤ) (o : Option ℤ) → home_of g.homes es name ≡ Some (home.Table values)
-        → (passed ≡ true → type ≡ value_type.Byte) → ((c : ℤ) → o ≡ Some c → i ≡ c)
-        → Pushes g top es env (table_element passed values o s) t false (is_small es e) v
-    table_by false values (Some c) at byte one stand h carries =
+    table_by : (values : List ℤ) (o : Option ℤ) → home_of g.homes es name ≡ Some (home.Table values)
+        → ((c : ℤ) → o ≡ Some c → i ≡ c) → Pushes g top es env (element_of_table values o s) t false (is_small es e) v
+    table_by values (Some c) at one stand h carries =
         pushing.known_items_push g top t es env name type values vs s (is_small es e) c v
         (array_at (home.Table values) at) stand.0 (known_item c (one c refl)) h carries
-    table_by false values None at byte one stand h carries =
+    table_by values None at one stand h carries =
         let rest : List Piece =
         TableAddress values ∷ operates WORD_SUBSCRIPT ∷ loads_at (or_zero s.offset) ∷ [] in
         pushing.items_push g top t es env name type values vs s sub.leaf (is_small es e) sub.i v low
         (array_at (home.Table values) at) (rest_stand g (before_offset s) rest stand).0 sub.are
         (λ k kept. sub.pushes (first_stand g (before_offset s) rest stand) k kept) h carries
-    table_by true values (Some c) at byte one stand h carries =
-        pushing.known_item_bytes_push g top t es env name type values vs s.whole (is_small es e) c v
-        (array_at (home.Table values) at) stand.0 (known_item c (one c refl)) (typed (byte refl)) h carries
-    table_by true values None at byte one stand h carries =
-        let rest : List Piece = TableAddress values ∷ operates WORD_SUBSCRIPT ∷ operates LOAD_BYTE ∷ [] in
-        pushing.item_bytes_push g top t es env name type values vs s.whole (is_leaf es e) (is_small es e) i v low
-        (array_at (home.Table values) at) (rest_stand g s.whole rest stand).0 item (typed (byte refl))
-        (λ k kept. whole (first_stand g s.whole rest stand) k kept) h carries
 
     -- what is in memory of the array
     kept_in : (o : Option Home) (m : Memory) → home_of g.homes es name ≡ o → Carries g top es env m
@@ -270,17 +260,11 @@ module _ (g : Ground) (top t : ℕ) (es : List Entry) (env : Environment) (holds
         (subst (λ (x : Held). IsKeptThere g m (home_of g.homes es name) (Array kind type size range) x) held
         (names_are_kept g m es env name (Array kind type size range) holds.meets carries.kept means))
 
-    passed_type : (k : ArrayKind) (u : ValueType) → are_passed_bytes (Some (Array k u size range)) ≡ true
-        → u ≡ value_type.Byte
-    passed_type arrays.Value value_type.Byte is = refl
-    passed_type k u is = absurd (cc is)
-
     element_by : (o : Option Home) (c : Option ℤ) → home_of g.homes es name ≡ o → ((d : ℤ) → c ≡ Some d → i ≡ d)
         → Pushes g top es env (element_code o (Some (Array kind type size range)) c s) t false (is_small es e) v
     element_by (Some (Word w)) c at one stand h carries = words_by type w c refl at one stand h carries
     element_by (Some (home.Table values)) c at one stand h carries =
-        table_by (are_passed_bytes (Some (Array kind type size range))) values c at (passed_type kind type) one stand h
-        carries
+        table_by values c at one stand h carries
     element_by None c at one stand h carries = absurd (kept_in None h.memory at carries)
     element_by (Some Nowhere) c at one stand h carries = absurd (kept_in (Some Nowhere) h.memory at carries)
     element_by (Some (Block w head)) c at one stand h carries =

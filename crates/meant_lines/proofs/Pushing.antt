@@ -32,13 +32,12 @@ use Rattle.meant_lines.specs.Carrying.{Ground, HoldsArray, HoldsTable, IsKeptThe
 use Rattle.meant_lines.specs.Pushing.{Pushed}
 use Rattle.meant_lines.specs.PushingLaws.{ConstantsPush, ScalarsPush, IsArray, KnownWordsPush, WordsPush}
 use Rattle.meant_lines.specs.PushingLaws.{KnownBytesPush, BytesPush, KnownItemsPush, ItemsPush}
-use Rattle.meant_lines.specs.PushingLaws.{KnownItemBytesPush, ItemBytesPush}
 use Rattle.meant_lines.proofs.Words.{all_alike, words_have_places, bytes_have_places}
 use Rattle.meant_lines.proofs.Words.{elements_have_addresses, addresses_read_back, addresses_move_twice}
 use Rattle.meant_lines.proofs.Carrying.{names_are_kept, homes_end_before, outer_words_stay, item_below}
 use Rattle.meant_lines.proofs.Instructions.{constants_are_pushed, words_are_loaded, addresses_are_pushed}
 use Rattle.meant_lines.proofs.Instructions.{tables_are_pushed, distant_words_are_loaded, bytes_are_loaded}
-use Rattle.meant_lines.proofs.Instructions.{words_are_selected, bytes_are_selected, addresses_move_on}
+use Rattle.meant_lines.proofs.Instructions.{words_are_selected, bytes_are_selected}
 
 -- ---- one push
 
@@ -251,60 +250,6 @@ items_push g top t es env name type values vs s leaf small i v low array reads s
           (word_selected g a i (or_zero s.offset) v k (of_z-to_z w32 a table.address) first.a subs.first subs.offset
           subs.both (table_there g k.memory values vs (i +ℤ or_zero s.offset) v kept.0 table subs.selects)));
       a = refl;
-      changes = first.changes;
-      below = λ is. first.below is;
-      alone = λ is. absurd (cc is);
-    }
-
--- the byte of an item that is a byte
-byte_itself : (v : ℤ) → InRange bytes v → v ≡ pos (byte_worth 1 v)
-byte_itself (pos n) is = let high = is.to_hi in omega (arith, ints, high)
-byte_itself (negsuc n) is = let low = is.from_lo in absurd (omega (arith, ints, low))
-
-item_byte_there : (g : Ground) (m : Memory) (values vs : List ℤ) (x v : ℤ) → vs ≡ values → HoldsTable g m values
-    → item_of vs x ≡ Some v → InRange bytes v
-    → (b : ℕ) × (v ≡ pos b) × (byte_at m (place_of (local_address (g.footing.tables values) x)) ≡ Some b)
-item_byte_there g m values vs (negsuc j) v same table is range = absurd (cc)
-item_byte_there g m values vs (pos j) v same table is range =
-    (byte_worth 1 v, byte_itself v range, (table.items j v (ap (item_at j) (sym same) ∙ is)).byte)
-
-pub known_item_bytes_push : KnownItemBytesPush
-known_item_bytes_push g top t es env name type values vs ps small c v array reads is range h carries =
-    let kept = array_kept g top es env name type (home.Table values) vs h.memory array carries in
-    let table = kept.1 reads in
-    let a = g.footing.tables values in
-    let k = with_pushed (word_of a) h in
-    let moved = with_a (word_of (local_address a c)) k in
-    let byte = item_byte_there g h.memory values vs c v kept.0 table is range in
-    record {
-      after = with_a (pos byte.0) moved;
-      leads = lead_both (tables_are_pushed g.footing values h)
-          (lead_both (addresses_move_on g.footing c a k (of_z-to_z w32 a table.address))
-          (bytes_are_loaded g.footing (local_address a c) byte.0 moved (addresses_read_back.further a c) byte.2));
-      a = sym byte.1;
-      changes = all_alike t g.words h.memory;
-      below = λ is. refl;
-      alone = λ is. absurd (cc is);
-    }
-
-pub item_bytes_push : ItemBytesPush
-item_bytes_push g top t es env name type values vs ps leaf small i v low array reads is range pushes h carries =
-    let first = pushes h carries in
-    let k = first.after in
-    let still = carries_after g top t es env ps leaf small i h array.meets low first carries in
-    let kept = array_kept g top es env name type (home.Table values) vs k.memory array still in
-    let table = kept.1 reads in
-    let a = g.footing.tables values in
-    let p = with_pushed (word_of a) k in
-    let s = with_result (word_of (local_address a k.stack.a)) p in
-    let byte = item_byte_there g k.memory values vs i v kept.0 table is range in
-    record {
-      after = with_a (pos byte.0) s;
-      leads = lead_both first.leads (lead_both (tables_are_pushed g.footing values k)
-          (lead_both (words_are_selected g.footing a p (of_z-to_z w32 a table.address))
-          (bytes_are_loaded g.footing (local_address a k.stack.a) byte.0 s (addresses_read_back.further a k.stack.a)
-          (ap (λ (x : ℤ). byte_at k.memory (place_of (local_address a x))) first.a ∙ byte.2))));
-      a = sym byte.1;
       changes = first.changes;
       below = λ is. first.below is;
       alone = λ is. absurd (cc is);

@@ -2,18 +2,18 @@
 use Rattle.std.specs.Prelude.{◌≡◌, ℕ, ◌≤◌, ℤ, ◌+ℤ◌, Bool, false, List, [], ◌∷◌}
 use Rattle.std.specs.Prelude.{FitsSigned, Option, Some, None}
 use Rattle.std.specs.Int.{w32}
-use Rattle.word_arithmetic.specs.Range.{Ends, InRange, bytes}
+use Rattle.word_arithmetic.specs.Range.{Ends}
 use Rattle.occam_parser.specs.declared.tree.ValueType.{ValueType}
 use Rattle.occam_parser.specs.declared.tree.ValueType.TheVariants as value_type
 use Rattle.scalar_ranges.specs.declared.scope.ScalarKind.{ScalarKind}
 use Rattle.scalar_ranges.specs.declared.scope.ArrayKind.{ArrayKind}
 use Rattle.scalar_ranges.specs.Entries.{Scalar, Array, Entry, meaning_in}
 use Rattle.scalar_ranges.specs.Environments.{One, Many, Environment, held_in, item_of, Meets}
-use Rattle.code_pieces.specs.Pieces.{Piece, constant}
+use Rattle.code_pieces.specs.Pieces.{constant}
 use Rattle.line_pieces.specs.Homes as home
 use Rattle.line_pieces.specs.Homes.{Home, Word, home_of}
 use Rattle.line_pieces.specs.Expressions.{Subscript, scalar_code, or_zero, before_offset, element_of_words}
-use Rattle.line_pieces.specs.Expressions.{element_of_table, byte_of_table}
+use Rattle.line_pieces.specs.Expressions.{element_of_table}
 use Rattle.placed_code.specs.StraightPieces as pieces
 use Rattle.meant_lines.specs.Carrying.{Ground, Carries}
 use Rattle.placed_code.specs.TablesInMemory.{ReadsTable}
@@ -90,18 +90,3 @@ ItemsPush = (g : Ground) (top t : ℕ) (es : List Entry) (env : Environment) (na
     → AreSubscripts vs i (or_zero s.offset) v
     → PushesValue g (Carries g top es env) (before_offset s) t leaf small i
     → PushesValue g (Carries g top es env) (element_of_table values None s) t false small v
-
--- the lowest byte of an item, which is all of a byte
-abbrev pub KnownItemBytesPush : Type 0
-KnownItemBytesPush = (g : Ground) (top t : ℕ) (es : List Entry) (env : Environment) (name : List ℕ) (type : ValueType)
-    (values vs : List ℤ) (ps : List Piece) (small : Bool) (c v : ℤ)
-    → IsArray g es env name type (home.Table values) vs → ReadsTable g.pieces values → item_of vs c ≡ Some v
-    → InRange bytes v
-    → PushesValue g (Carries g top es env) (byte_of_table values (Some c) ps) t false small v
-
-abbrev pub ItemBytesPush : Type 0
-ItemBytesPush = (g : Ground) (top t : ℕ) (es : List Entry) (env : Environment) (name : List ℕ) (type : ValueType)
-    (values vs : List ℤ) (ps : List Piece) (leaf small : Bool) (i v : ℤ) → top ≤ t
-    → IsArray g es env name type (home.Table values) vs → ReadsTable g.pieces values → item_of vs i ≡ Some v
-    → InRange bytes v → PushesValue g (Carries g top es env) ps t leaf small i
-    → PushesValue g (Carries g top es env) (byte_of_table values None ps) t false small v

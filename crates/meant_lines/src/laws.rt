@@ -16,7 +16,6 @@ ghost use Rattle.meant_lines.specs.CarryingLaws.{SameShapesCarry};
 ghost use Rattle.meant_lines.specs.CarryingLaws.{ScalarsAreCarried, ElementsAreCarried, BytesAreCarried};
 ghost use Rattle.meant_lines.specs.PushingLaws.{ConstantsPush, ScalarsPush, KnownWordsPush, WordsPush};
 ghost use Rattle.meant_lines.specs.PushingLaws.{KnownBytesPush, BytesPush, KnownItemsPush, ItemsPush};
-ghost use Rattle.meant_lines.specs.PushingLaws.{KnownItemBytesPush, ItemBytesPush};
 ghost use Rattle.meant_lines.specs.OperatorLaws.{BothPush, OperationsPush, ArithmeticPushes, ComparisonsPush};
 ghost use Rattle.meant_lines.specs.OperatorLaws.{PrefixesPush, ChainsCompute, TruthsAreJoined, FirstTwoPush};
 ghost use Rattle.meant_lines.specs.OperatorLaws.{OneMorePushes};
@@ -120,8 +119,6 @@ pub fn leaves_and_elements_are_pushed()
     ensures bytes { BytesPush }
     ensures known_items { KnownItemsPush }
     ensures items { ItemsPush }
-    ensures known_item_bytes { KnownItemBytesPush }
-    ensures item_bytes { ItemBytesPush }
 {}
 
 /// The code of two operands pushes both, where the code of each pushes its value, and with an operation behind it their

@@ -24,9 +24,3 @@ returns-clause-known_items c = proof.known_items_push
 
 pub returns-clause-items : goal.returns-clause-items
 returns-clause-items c = proof.items_push
-
-pub returns-clause-known_item_bytes : goal.returns-clause-known_item_bytes
-returns-clause-known_item_bytes c = proof.known_item_bytes_push
-
-pub returns-clause-item_bytes : goal.returns-clause-item_bytes
-returns-clause-item_bytes c = proof.item_bytes_push
