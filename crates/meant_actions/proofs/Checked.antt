@@ -37,7 +37,6 @@ use Rattle.usage_checks.specs.PlaceRules.{target_type, channel_type, elements_in
 use Rattle.usage_checks.proofs.ActionsGoWell.{LiesIn, fit_has, fit_typed}
 use Rattle.usage_checks.proofs.KnownValues.{found_number, found_whole}
 use Rattle.code_pieces.specs.Pieces.{word_after}
-use Rattle.line_pieces.specs.Homes.{Home, Word, home_of}
 use Rattle.line_pieces.specs.Actions.{carried}
 use Rattle.line_pieces.specs.Expressions.{offset_of, or_zero}
 use Rattle.meant_lines.specs.Carrying.{Ground}
@@ -51,10 +50,8 @@ use Rattle.meant_actions.specs.Checked.{HasVariables, CheckedActionsAreReady}
 use Rattle.meant_actions.specs.Exchanging.{IsPort}
 use Rattle.meant_actions.specs.Receiving.{IsInput}
 use Rattle.meant_actions.specs.Sending.{IsElementOf, IsOutput, HasSource}
-use Rattle.meant_actions.specs.OwnWords.{IsWorded}
 use Rattle.meant_actions.proofs.Acting.{next_word}
 use Rattle.meant_actions.proofs.Sending.{same_types}
-use Rattle.meant_actions.proofs.OwnWords.{words_are_given}
 
 -- ---- numbers that are there
 
@@ -152,18 +149,6 @@ channel_carries (Some (Channels of size)) true type is = cc is
 channel_carries (Some m) subscripted type is = absurd (cc is)
 channel_carries None subscripted type is = absurd (cc is)
 
--- ---- words
-
-scalar_word : (type : ValueType) (range : Ends) (o : Option Home) → IsWorded (Scalar scalar.Variable type range) o
-    → (w : ℕ) × (o ≡ Some (Word w))
-scalar_word type range (Some (Word w)) is = (w, refl)
-scalar_word type range o is = absurd is
-
-array_word : (type : ValueType) (size : Option ℕ) (range : Ends) (o : Option Home)
-    → IsWorded (Array array.Variable type size range) o → (w : ℕ) × (o ≡ Some (Word w))
-array_word type size range (Some (Word w)) is = (w, refl)
-array_word type size range o is = absurd is
-
 -- ---- subscripts
 
 module _ (g : Ground) (top : ℕ) (es : List Entry) (env : Environment) (ports : List (Option Port))
@@ -228,8 +213,7 @@ module _ (g : Ground) (top : ℕ) (es : List Entry) (env : Environment) (ports :
       → target_type (Some (Scalar kind of range)) false ≡ Ok type → FoundVariable t name type None
   scalar_found t name type scalar.Variable of range means is =
       let n = found_number name es (Scalar scalar.Variable of range) means in
-      let w = scalar_word of range (home_of g.homes es name)
-      (words_are_given.found g.homes es name (Scalar scalar.Variable of range) names.words means) in
+      let w = names.scalars name of range means in
       let same : type_of_values of ≡ type = cc (is) in (
         of,
         same,
@@ -241,8 +225,7 @@ module _ (g : Ground) (top : ℕ) (es : List Entry) (env : Environment) (ports :
           at = w.1;
         }),
       )
-  scalar_found t name type scalar.Reference of range means is =
-      absurd (words_are_given.found g.homes es name (Scalar scalar.Reference of range) names.words means)
+  scalar_found t name type scalar.Reference of range means is = absurd (names.references name of range means)
   scalar_found t name type scalar.Value of range means is = absurd (cc is)
   scalar_found t name type scalar.Index of range means is = absurd (cc is)
 
@@ -255,8 +238,7 @@ module _ (g : Ground) (top : ℕ) (es : List Entry) (env : Environment) (ports :
   element_found t name type e array.Variable of None range low few means known is sub words = absurd (cc known)
   element_found t name type e array.Variable of (Some size) range low few means known is sub words =
       let n = found_number name es (Array array.Variable of (Some size) range) means in
-      let w = array_word of (Some size) range (home_of g.homes es name)
-      (words_are_given.found g.homes es name (Array array.Variable of (Some size) range) names.words means) in
+      let w = names.arrays name of (Some size) range means in
       let same : type_of_values of ≡ type = cc (is) in
       let i = subscript_ready t e sub.0 size low few sub.1 (sub.2 size refl) words in (
         of,

@@ -10,4 +10,3 @@ pub mod Messages
 pub mod Sending
 pub mod Receiving
 pub mod Variables
-pub mod OwnWords

@@ -1,9 +1,13 @@
 -- What an action that breaks no rule gives: it is ready, where names have the homes of their kinds.
-use Rattle.std.specs.Prelude.{◌≡◌, ℕ, ◌≤◌, true, List, Option}
+use Rattle.std.specs.Prelude.{◌≡◌, ℕ, ◌≤◌, true, List, Option, Some}
 use Rattle.module_format.specs.declared.limits.TheConstants.{MAX_DATA_WORDS}
+use Rattle.word_arithmetic.specs.Range.{Ends}
+use Rattle.occam_parser.specs.declared.tree.ValueType.{ValueType}
 use Rattle.occam_parser.specs.Lines.{Action, Input, Output}
 use Rattle.occam_parser.specs.Words.{action_has_words}
-use Rattle.scalar_ranges.specs.Entries.{Entry}
+use Rattle.scalar_ranges.specs.declared.scope.ScalarKind.TheVariants as scalar
+use Rattle.scalar_ranges.specs.declared.scope.ArrayKind.TheVariants as array
+use Rattle.scalar_ranges.specs.Entries.{Scalar, Array, Entry, meaning_in}
 use Rattle.scalar_ranges.specs.Environments.{Environment}
 use Rattle.program_uses.specs.declared.uses.Direction.TheVariants as direction
 use Rattle.program_uses.specs.Signatures.{Parameter}
@@ -12,17 +16,24 @@ use Rattle.program_meaning.specs.Links.{Port}
 use Rattle.program_meaning.specs.Sequential.{IsSequentialAction}
 use Rattle.usage_checks.specs.Holding.{ActionHolds}
 use Rattle.usage_checks.specs.Whole.{AreWhole}
+use Rattle.line_pieces.specs.Homes.{Word, home_of}
 use Rattle.meant_lines.specs.Carrying.{Ground}
 use Rattle.meant_actions.specs.Actions.{IsReady}
 use Rattle.meant_actions.specs.Exchanging.{IsPort}
-use Rattle.meant_actions.specs.OwnWords.{VariablesHaveWords}
 
--- What is known of names is true, and variables have words of their own.
+-- What is known of names is true, and variables have words of their own. No parameter is a variable.
 pub record HasVariables (g : Ground) (es : List Entry) (env : Environment) : Type 0 where
   pub holds : IsTrueIn es env
   pub count : ℕ
   pub whole : AreWhole count es
-  pub words : VariablesHaveWords g.homes es
+  pub scalars : (name : List ℕ) (type : ValueType) (range : Ends)
+      → meaning_in name es ≡ Some (Scalar scalar.Variable type range)
+      → (w : ℕ) × (home_of g.homes es name ≡ Some (Word w))
+  pub references : (name : List ℕ) (type : ValueType) (range : Ends)
+      → meaning_in name es ≡ Some (Scalar scalar.Reference type range) → ⊥
+  pub arrays : (name : List ℕ) (type : ValueType) (size : Option ℕ) (range : Ends)
+      → meaning_in name es ≡ Some (Array array.Variable type size range)
+      → (w : ℕ) × (home_of g.homes es name ≡ Some (Word w))
 
 -- The channel of an action is a port.
 abbrev pub HasPort : Ground → List Entry → Environment → List (Option Port) → Action → Type 0

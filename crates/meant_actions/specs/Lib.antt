@@ -6,4 +6,3 @@ pub mod Assigning
 pub mod Exchanging
 pub mod Sending
 pub mod Receiving
-pub mod OwnWords

@@ -8,7 +8,6 @@ ghost use Rattle.meant_actions.specs.Bytes.{BytesStay};
 ghost use Rattle.meant_actions.specs.Exchanging.{RootsAreUndisturbed};
 ghost use Rattle.meant_actions.specs.Receiving.{InputsBehave};
 ghost use Rattle.meant_actions.specs.Sending.{OutputsBehave};
-ghost use Rattle.meant_actions.specs.OwnWords.{WordsAreGiven};
 
 /// `SKIP` leaves the environment as it is, and `STOP` halts.
 pub fn nothing_is_done()
@@ -45,11 +44,6 @@ pub fn outputs_behave()
 /// The code of each action makes a process do what the action means.
 pub fn actions_behave()
     ensures { ActionsBehave }
-{}
-
-/// Declarations give each variable and each array that can change words of its own.
-pub fn words_are_given()
-    ensures { WordsAreGiven }
 {}
 
 /// An action that breaks no rule is ready, where variables have words of their own and its channel is a port.

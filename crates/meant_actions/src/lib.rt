@@ -5,5 +5,5 @@ mod laws;
 
 pub use laws::{
     actions_behave, assignments_behave, bytes_stay, checked_actions_are_ready, inputs_behave,
-    nothing_is_done, outputs_behave, undisturbed_frames_carry, words_are_given,
+    nothing_is_done, outputs_behave, undisturbed_frames_carry,
 };
