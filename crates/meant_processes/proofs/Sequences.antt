@@ -33,9 +33,8 @@ use Rattle.usage_checks.proofs.RangesStay.{remains_low}
 use Rattle.code_pieces.specs.Pieces as pieces
 use Rattle.code_pieces.specs.Pieces.{Code, Row, before, then_code, written}
 use Rattle.line_pieces.specs.Declarations.{declaration_code, facts_in}
-use Rattle.code_generator.specs.Instances.{is_finer}
 use Rattle.code_generator.specs.Processes.{Site, at_place, component_code, components_code, construct_code, line_code}
-use Rattle.code_generator.specs.Processes.{process_code, row_of, with_declaration, with_row}
+use Rattle.code_generator.specs.Processes.{process_code, row_of, with_declaration}
 use Rattle.placed_code.specs.LaidCode.{LaidCode}
 use Rattle.placed_code.specs.Behaves.{Behaves, any, over}
 use Rattle.placed_code.specs.Points.{Point}
@@ -166,33 +165,13 @@ module _ (p : Program) (none : BreaksNoRule p.items) where
   pub act_behaves : (action : Action) → LinesBehave p → ConstructBehaves p (Act action)
   act_behaves action lines = record {
     behaves = λ first line s turns env c reached sequential words placed is fit.
-        let w = surroundings p in
         let es = s.known.entries in
         let right = places_hold p.items (standing p) (AProcess first (Does line (Act action))) s.known none
         reached in
-        let known = with_entries (after_action p.around.signatures action) s.known in
         let stays = action_leaves p.around.signatures es env p.ports action placed.holds.meets right.holds in
-        by_row s env turns (is_finer s.frame.homes es s.frame.top action) known (line_code w action s) c is fit
-        (λ code line_is fits.
         pieces_well p.code (IndicesStay (shape es) env)
-        (lines first line action s turns env code reached placed words line_is fits) stays);
+        (lines first line action s turns env c reached placed words is fit) stays;
   }
-    where
-      by_row : (s : Site) (env : Environment) (turns : ℕ → ℤ) (finer : Bool) (known : Known) (o : Option Code)
-          (c : Code) → with_row finer s.frame known o ≡ Some c → AllFit p c.pieces
-          → ((code : Code) → o ≡ Some code → AllFit p code.pieces
-          → PiecesBehave p.code (CarriedAt p s turns env) code.pieces (Left p s turns env) (acting p.ports action env))
-          → PiecesBehave p.code (CarriedAt p s turns env) c.pieces (Left p s turns env) (acting p.ports action env)
-      by_row s env turns false known o c is fit all = all c is fit
-      by_row s env turns true known o c is fit all =
-          let t = then_is o (λ label. written (row_of label s.frame known ∷ []) (label + 1)) c is in
-          let row = written_is (row_of t.first.labels s.frame known ∷ []) (t.first.labels + 1) t.last t.last_is in
-          let whole : c.pieces ≡ t.first.pieces ++ row_of t.first.labels s.frame known ∷ [] =
-          t.pieces ∙ ap (λ ps. t.first.pieces ++ ps) row in
-          let fits = all_first (FitsIn p) t.first.pieces (row_of t.first.labels s.frame known ∷ []) (subst (AllFit p) whole fit) in
-          subst (λ ps. PiecesBehave p.code (CarriedAt p s turns env) ps (Left p s turns env)
-          (acting p.ports action env)) (sym whole)
-          (row_behind p.code t.first.labels (facts_in s.frame known.entries) (all t.first t.first_is fits))
 
   -- ---- components of a SEQ
 

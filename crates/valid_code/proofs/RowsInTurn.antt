@@ -55,15 +55,14 @@ use Rattle.line_pieces.specs.Declarations.{Frame, declaration_code, facts_in, ho
 use Rattle.line_pieces.specs.Expressions.{expression_code}
 use Rattle.line_pieces.specs.Homes.{Home, Nowhere, facts_at, facts_from}
 use Rattle.code_generator.specs.Calls.{Callee, where_called}
-use Rattle.code_generator.specs.Instances.{is_finer}
 use Rattle.code_generator.specs.Processes.{Always, EndedChoices, IfEnding, NoChoice, Opens, PlacedChoice}
-use Rattle.code_generator.specs.Processes.{PlacedChoices, Site, Stops, Surroundings, ThenChoice, act_code, all_tested}
+use Rattle.code_generator.specs.Processes.{PlacedChoices, Site, Stops, Surroundings, ThenChoice, all_tested}
 use Rattle.code_generator.specs.Processes.{at_place, body_code, by_block, choices_code, component_code}
 use Rattle.code_generator.specs.Processes.{components_code, construct_code, ending_code, has_scalar, if_code}
 use Rattle.code_generator.specs.Processes.{in_each_turn, in_loop, is_true, line_code, loop_code, loop_end, loop_start}
 use Rattle.code_generator.specs.Processes.{no_loop, opening, placed, placed_choices, process_code, repeated_seq, row_of}
 use Rattle.code_generator.specs.Processes.{taken_code, tested_code, times, turn_begun, turned, value_or_zero}
-use Rattle.code_generator.specs.Processes.{with_declaration, with_ending, with_opening, with_row}
+use Rattle.code_generator.specs.Processes.{with_declaration, with_ending, with_opening}
 use Rattle.code_generator.specs.Programs.{callable, code_of, first_word, framed, home_of_port, in_main, items_code}
 use Rattle.code_generator.specs.Programs.{last_item_code, no_frame, with_links}
 use Rattle.meant_code.specs.AmongOthers.{NamesBelow}
@@ -192,12 +191,6 @@ module _ (words : ℕ) (few : words ≤ MAX_DATA_WORDS) where
 
   -- ---- actions
 
-  row_good : (finer : Bool) (f : Frame) (k : Known) (code : Option Code) → Good code → SaysInTurn f k
-      → Good (with_row finer f k code)
-  row_good false f k code good turn = good
-  row_good true f k code good turn =
-      then_good code (λ label. written (row_of label f k ∷ []) (label + 1)) good (λ label names. (turn, tt))
-
   line_good : (w : Surroundings) (action : Action) (s : Site) → IsSequentialAction action → IsSite s.frame s.known
       → Good (line_code w action s)
   line_good w (Instance name actuals) s seq site = absurd seq
@@ -212,17 +205,6 @@ module _ (words : ℕ) (few : words ≤ MAX_DATA_WORDS) where
   line_good w (Output channel value) s seq site =
       λ names. straight_rows (output_code s.frame.homes s.known.entries s.frame.top channel value)
       (output_is s.frame.homes s.known.entries s.frame.top channel value)
-
-  act_good : (w : Surroundings) (action : Action) (s : Site) → IsSequentialAction action → IsSite s.frame s.known
-      → Good (act_code w action s)
-  act_good w action s seq site =
-      let after = with_entries (after_action w.around.signatures action) s.known in
-      let ns = changed_by_action w.around.signatures s.known.entries action in
-      row_good (is_finer s.frame.homes s.known.entries s.frame.top action) s.frame after (line_code w action s)
-      (line_good w action s seq site)
-      (says s.frame s.known after site (from_shape after s.known
-      (within_shape ns after.entries s.known.entries
-      (action_within ns w.around.signatures s.known.entries action (covers_itself ns)))))
 
   -- ---- components, whose processes have such code at all sites
 
@@ -588,7 +570,7 @@ module _ (words : ℕ) (few : words ≤ MAX_DATA_WORDS) where
 
       construct_good : (line : ℕ) (c : Construct) (s : Site) → IsSequentialConstruct c → IsSite s.frame s.known
           → Good (construct_code w line c s)
-      construct_good line (Act action) s seq site = act_good w action s seq site
+      construct_good line (Act action) s seq site = line_good w action s seq site
       construct_good line (Block kind cs) s seq site =
           block_good w (block_word kind) cs s (kind_fits kind) (all_good (block_word kind) cs seq.1) site
       construct_good line (Replicated r b) s seq site = body_good line r b s seq site

@@ -75,15 +75,14 @@ use Rattle.line_pieces.specs.Declarations.{with_names, with_words, words_in}
 use Rattle.line_pieces.specs.Expressions.{expression_code}
 use Rattle.line_pieces.specs.Homes.{Block as InBlock, Home, Nowhere, Word, facts_of}
 use Rattle.code_generator.specs.Calls.{Callee, where_called}
-use Rattle.code_generator.specs.Instances.{is_finer}
 use Rattle.code_generator.specs.Processes.{Always, EndedChoices, IfEnding, NoChoice, Opens, PlacedChoice}
-use Rattle.code_generator.specs.Processes.{PlacedChoices, Site, Stops, Surroundings, ThenChoice, act_code, all_tested}
+use Rattle.code_generator.specs.Processes.{PlacedChoices, Site, Stops, Surroundings, ThenChoice, all_tested}
 use Rattle.code_generator.specs.Processes.{at_place, body_code, by_block, choices_code, component_code}
 use Rattle.code_generator.specs.Processes.{components_code, construct_code, ending_code, has_scalar, if_code}
 use Rattle.code_generator.specs.Processes.{in_each_turn, in_loop, is_true, line_code, loop_code, loop_end, loop_start}
 use Rattle.code_generator.specs.Processes.{no_loop, opening, placed, placed_choices, process_code, repeated_seq, row_of}
 use Rattle.code_generator.specs.Processes.{taken_code, tested_code, times, turn_begun, turned, value_or_zero}
-use Rattle.code_generator.specs.Processes.{with_declaration, with_ending, with_opening, with_row}
+use Rattle.code_generator.specs.Processes.{with_declaration, with_ending, with_opening}
 use Rattle.code_generator.specs.Programs.{callable, code_of, framed, home_of_port, in_main, items_code, last_item_code}
 use Rattle.code_generator.specs.Programs.{no_frame}
 use Rattle.placed_code.specs.LaidCode.{labels_in}
@@ -216,12 +215,6 @@ module _ (items : List ProgramItem) (unbroken : BreaksNoRule items) (labels : �
 
   -- ---- actions
 
-  row_good : (finer : Bool) (f : Frame) (k : Known) (code : Option Code) → Good code → IsSaid f k
-      → Good (with_row finer f k code)
-  row_good false f k code good said = good
-  row_good true f k code good said =
-      then_good code (λ label. written (row_of label f k ∷ []) (label + 1)) good (λ label below. (said, tt))
-
   line_good : (w : Surroundings) (action : Action) (s : Site) → IsSequentialAction action → IsSite s.frame s.known
       → Good (line_code w action s)
   line_good w (Instance name actuals) s seq site = absurd seq
@@ -237,18 +230,6 @@ module _ (items : List ProgramItem) (unbroken : BreaksNoRule items) (labels : �
   line_good w (Output channel value) s seq site =
       λ below. straight_rows (output_code s.frame.homes s.known.entries s.frame.top channel value)
       (output_is s.frame.homes s.known.entries s.frame.top channel value)
-
-  act_good : (w : Surroundings) (action : Action) (s : Site) → IsSequentialAction action
-      → action_has_words action ≡ true → IsSite s.frame s.known → Good (act_code w action s)
-  act_good w action s seq words site =
-      let es = s.known.entries in
-      let after = with_entries (after_action w.around.signatures action) s.known in
-      let ns = changed_by_action w.around.signatures es action in
-      row_good (is_finer s.frame.homes es s.frame.top action) s.frame after (line_code w action s)
-      (line_good w action s seq site)
-      (says s.frame s.known after site
-      (indices_within ns after.entries es (action_within ns w.around.signatures es action (covers_itself ns)))
-      (moves_keep_numbers.acting w.around.signatures action es seq words site.have))
 
   -- ---- components, whose processes have such code where the walk comes to them
 
@@ -775,7 +756,7 @@ module _ (items : List ProgramItem) (unbroken : BreaksNoRule items) (labels : �
 
       construct_good : (line : ℕ) (c : Construct) (s : Site) → IsSequentialConstruct c → construct_has_words c ≡ true
           → IsReached w (Does line c) s.known → IsSite s.frame s.known → Good (construct_code w line c s)
-      construct_good line (Act action) s seq words reached site = act_good w action s seq words site
+      construct_good line (Act action) s seq words reached site = line_good w action s seq site
       construct_good line (Block kind cs) s seq words reached site =
           block_good w (block_word kind) cs s (kind_fits kind) (all_good (block_word kind) cs seq.1 words)
           (all_keep w.around (block_word kind) cs seq.1 words) (block_comes w line kind cs s.known reached) site
