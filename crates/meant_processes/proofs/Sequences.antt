@@ -1,5 +1,5 @@
 -- Declarations, actions, and processes one after the other.
-use Rattle.std.proofs.Common.{◌≡◌, ℕ, ◌+◌, ℤ, Bool, true, false, List, [], ◌∷◌, ◌++◌, length, Option, Some}
+use Rattle.std.proofs.Common.{◌≡◌, ℕ, ℤ, true, List, [], length, Option, Some}
 use Rattle.std.proofs.Common.{None, inl, inr, refl, sym, ap, subst, ◌∙◌, arith}
 use Rattle.std.proofs.lemmas.Bool.{and_parts}
 use Rattle.machine_state.specs.Memory.{Memory}
@@ -15,16 +15,14 @@ use Rattle.scalar_ranges.specs.MoveLaws.{shape}
 use Rattle.scalar_ranges.specs.Moves.{Known, outermost}
 use Rattle.scalar_ranges.proofs.MoveLaws.{as_long, shape_long}
 use Rattle.program_uses.specs.Changes.{changed_by, changed_by_components}
-use Rattle.program_meaning.specs.Doing.{Doing, Leaves, acting, doing, doing_component, doing_components}
+use Rattle.program_meaning.specs.Doing.{Doing, Leaves, doing, doing_component, doing_components}
 use Rattle.program_meaning.specs.Doing.{doing_construct, doing_then, leaves, or_fails}
 use Rattle.program_meaning.specs.GoingWell.{IsTrueIn}
 use Rattle.program_meaning.specs.Sequential.{AreSequential, IsSequential, IsSequentialConstruct}
 use Rattle.program_meaning.specs.Storing.{declare}
 use Rattle.program_meaning.proofs.MovesWithin.{within_shape}
 use Rattle.usage_checks.specs.AfterProcesses.{after_components, inside}
-use Rattle.usage_checks.specs.Following.{after_action}
 use Rattle.usage_checks.specs.ItemRules.{BreaksNoRule}
-use Rattle.usage_checks.specs.NameRules.{with_entries}
 use Rattle.usage_checks.specs.Outlines.{IsMadeOf}
 use Rattle.usage_checks.specs.Reaching.{AComponent, AProcess, Piece, Reaches, StandsAmong, behind, process_of, to_process}
 use Rattle.usage_checks.proofs.PlacesHold.{places_hold}
@@ -32,9 +30,9 @@ use Rattle.usage_checks.proofs.RangesStay.{components_stay, covers_itself, decla
 use Rattle.usage_checks.proofs.RangesStay.{remains_low}
 use Rattle.code_pieces.specs.Pieces as pieces
 use Rattle.code_pieces.specs.Pieces.{Code, Row, before, then_code, written}
-use Rattle.line_pieces.specs.Declarations.{declaration_code, facts_in}
-use Rattle.code_generator.specs.Processes.{Site, at_place, component_code, components_code, construct_code, line_code}
-use Rattle.code_generator.specs.Processes.{process_code, row_of, with_declaration}
+use Rattle.line_pieces.specs.Declarations.{declaration_code}
+use Rattle.code_generator.specs.Processes.{Site, at_place, component_code, components_code, construct_code}
+use Rattle.code_generator.specs.Processes.{process_code, with_declaration}
 use Rattle.placed_code.specs.LaidCode.{LaidCode}
 use Rattle.placed_code.specs.Behaves.{Behaves, any, over}
 use Rattle.placed_code.specs.Points.{Point}
@@ -47,7 +45,7 @@ use Rattle.meant_processes.specs.Lying.{LieApart, PiecesBehave}
 use Rattle.meant_processes.specs.Channels.{IsOfNoChannel}
 use Rattle.meant_processes.specs.Places.{AllFit, CarriedAt, FitsIn, IsPlaced, Program, ground, standing, surroundings}
 use Rattle.meant_processes.specs.Premises.{DeclarationOpens, LinesBehave}
-use Rattle.meant_processes.proofs.Behaving.{no_pieces, pieces_as, pieces_both, pieces_well, row_behind}
+use Rattle.meant_processes.proofs.Behaving.{no_pieces, pieces_as, pieces_both, pieces_well}
 use Rattle.meant_processes.proofs.Carried.{scope_left}
 use Rattle.meant_processes.proofs.CodeParts.{all_first, all_last, before_is, then_is, written_is}
 use Rattle.meant_processes.proofs.Indices.{IndicesStay, action_leaves, indices_left, indices_same, indices_then}

@@ -25,7 +25,7 @@ use Rattle.scalar_ranges.specs.Narrowing.{narrow, test_of}
 use Rattle.scalar_ranges.proofs.MoveLaws.{shapes_stay}
 use Rattle.scalar_ranges.proofs.Nesting.{long_alike, outermost_short}
 use Rattle.program_uses.specs.Actions.{Around, is_before}
-use Rattle.program_uses.specs.Changes.{changed_by_action, changed_by_body, changed_by_component}
+use Rattle.program_uses.specs.Changes.{changed_by_body, changed_by_component}
 use Rattle.program_uses.specs.Changes.{changed_by_components}
 use Rattle.program_uses.specs.Declaring.{add, add_declaration, add_formals, constant_meaning, formal_meaning}
 use Rattle.program_uses.specs.Indices.{Repeats, index_in, index_meaning, is_seq, repeats_of, turn_by_turn}
@@ -36,7 +36,6 @@ use Rattle.program_meaning.specs.Sequential.{IsSequentialConstruct, AreSequentia
 use Rattle.program_meaning.proofs.MovesWithin.{within_long, within_shape}
 use Rattle.usage_checks.specs.AfterProcesses.{after_component, after_components, begun, begun_body, chosen}
 use Rattle.usage_checks.specs.AfterProcesses.{ended, inside, repeated, unless}
-use Rattle.usage_checks.specs.Following.{after_action}
 use Rattle.usage_checks.specs.ItemRules as outside
 use Rattle.usage_checks.specs.ItemRules.{Outside, after_item, after_procedure, after_walk, after_weighing, around_in}
 use Rattle.usage_checks.specs.ItemRules.{in_body, weighed}
@@ -44,11 +43,11 @@ use Rattle.usage_checks.specs.NameRules.{with_entries}
 use Rattle.usage_checks.specs.Outlines.{IsMadeOf}
 use Rattle.usage_checks.specs.Sizes.{Measured}
 use Rattle.usage_checks.proofs.OutlinesStay.{kind_fits}
-use Rattle.usage_checks.proofs.RangesStay.{EndsWithin, Low, Remains, Turned, action_within, component_stays, components_stay}
+use Rattle.usage_checks.proofs.RangesStay.{EndsWithin, Low, Remains, Turned, component_stays, components_stay}
 use Rattle.usage_checks.proofs.RangesStay.{covers_itself, declared_long, ranges_stay, remains_low, turns_turned}
 use Rattle.code_pieces.specs.declared.operations.TheConstants.{STOP_PROCESS}
 use Rattle.code_pieces.specs.Pieces.{Code, Direct, Jump, JumpUnless, Piece, TableAddress, before, closed_by}
-use Rattle.code_pieces.specs.Pieces.{operates, then_code, written}
+use Rattle.code_pieces.specs.Pieces.{operates, then_code}
 use Rattle.code_pieces.specs.Laying.{words_taken}
 use Rattle.line_pieces.specs.Actions.{assign_code, forgets, input_code, may_show, output_code, test_code}
 use Rattle.line_pieces.specs.Declarations.{Frame, declaration_code, facts_in, home_for, with_block, with_home}

@@ -19,7 +19,7 @@ use Rattle.occam_parser.specs.Lines.{Replicator, Skip, Stop, Value, Variables, b
 use Rattle.occam_parser.specs.Blocks.{Act, Block, Body, Chosen, Component, Components, Construct, Declared, Does}
 use Rattle.occam_parser.specs.Blocks.{Further, GlobalConstant, GlobalProcedure, Guarded, NoComponent, One, Part, part_of}
 use Rattle.occam_parser.specs.Blocks.{Plain, Procedure, Process, ProgramItem, Replicated}
-use Rattle.occam_parser.specs.Words.{action_has_words, body_has_words, component_has_words, components_have_words}
+use Rattle.occam_parser.specs.Words.{body_has_words, component_has_words, components_have_words}
 use Rattle.occam_parser.specs.Words.{construct_has_words, declaration_has_words, formal_has_words, has_words}
 use Rattle.occam_parser.specs.Words.{item_has_words, items_have_words, process_has_words, replicator_has_words}
 use Rattle.module_format.specs.Order.{greatest_word}
@@ -33,7 +33,7 @@ use Rattle.scalar_ranges.specs.Moves.{Known, begin, begin_loop, begun_with, end,
 use Rattle.scalar_ranges.specs.Narrowing.{test_of}
 use Rattle.scalar_ranges.proofs.Nesting.{further_out, outermost_twice}
 use Rattle.program_uses.specs.Actions.{Around, is_before}
-use Rattle.program_uses.specs.Changes.{changed_by, changed_by_action, changed_by_body, changed_by_component}
+use Rattle.program_uses.specs.Changes.{changed_by, changed_by_body, changed_by_component}
 use Rattle.program_uses.specs.Changes.{changed_by_components}
 use Rattle.program_uses.specs.Constants.{size_in, value_as}
 use Rattle.program_uses.specs.Declaring.{add, add_all, add_declaration, add_formals, channel_meaning, constant_meaning}
@@ -50,7 +50,6 @@ use Rattle.program_meaning.proofs.MovesWithin.{narrow_within, within_left, withi
 use Rattle.usage_checks.specs.declared.channel_rules.Position.{Position}
 use Rattle.usage_checks.specs.AfterProcesses.{after_component, after_components, begun, begun_body, chosen, ended, inside}
 use Rattle.usage_checks.specs.AfterProcesses.{repeated, unless}
-use Rattle.usage_checks.specs.Following.{after_action}
 use Rattle.usage_checks.specs.Holding.{ReplicatorHolds}
 use Rattle.usage_checks.specs.ItemRules as outside
 use Rattle.usage_checks.specs.ItemRules.{BreaksNoRule, Outside, after_item, after_procedure, after_walk, after_weighing}
@@ -62,13 +61,13 @@ use Rattle.usage_checks.specs.Reaching.{entered, in_block, process_of, to_body, 
 use Rattle.usage_checks.specs.Sizes.{Measured}
 use Rattle.usage_checks.proofs.OutlinesStay.{kind_fits}
 use Rattle.usage_checks.proofs.PlacesHold.{places_hold}
-use Rattle.usage_checks.proofs.RangesStay.{EndsWithin, Low, Remains, Turned, action_within, all_outermost}
+use Rattle.usage_checks.proofs.RangesStay.{EndsWithin, Low, Remains, Turned, all_outermost}
 use Rattle.usage_checks.proofs.RangesStay.{component_stays, components_stay, covers_itself, ranges_stay, remains_low}
 use Rattle.usage_checks.proofs.RangesStay.{turns_turned}
 use Rattle.code_pieces.specs.declared.operations.TheConstants.{STOP_PROCESS}
 use Rattle.code_pieces.specs.declared.piece.RowEntry.{RowEntry}
 use Rattle.code_pieces.specs.Pieces.{Code, Direct, Jump, JumpUnless, Piece, Row, TableAddress, before, closed_by, operates}
-use Rattle.code_pieces.specs.Pieces.{then_code, word_after, written}
+use Rattle.code_pieces.specs.Pieces.{then_code, word_after}
 use Rattle.line_pieces.specs.Actions.{assign_code, forgets, input_code, may_show, output_code, test_code}
 use Rattle.line_pieces.specs.Declarations.{Frame, channels_in, declaration_code, declared, facts_in, home_for, with_home}
 use Rattle.line_pieces.specs.Declarations.{with_names, with_words, words_in}
