@@ -211,6 +211,14 @@ def tables(count, reads):
     return program(*rows, main(["INT X:", "SEQ", "  in0 ? X", *deeper(narrowed)]))
 
 
+# ---- arrays of more words than there are
+
+
+def arrays_of_all_words(count):
+    """One line declares so many arrays, each of more words than a region has."""
+    return program(main([f"[2147483647]INT {joined(f'a{number}' for number in range(count))}:", "SKIP"]))
+
+
 # ---- PARs and alternations
 
 
@@ -324,6 +332,7 @@ SOURCES = {
     "constants": (lambda: constants(32_700), COMPILED, "32,700 constants"),
     "texts": (lambda: texts(900), TOO_LARGE, "900 texts of 1,002 characters"),
     "tables": (lambda: tables(1_000, 12_000), COMPILED, "12,000 reads of 1,000 tables that begin alike"),
+    "arrays": (lambda: arrays_of_all_words(110_000), TOO_LARGE, "110,000 arrays of 2,147,483,647 words in a line"),
     "branches": (lambda: branches(64), COMPILED, "a PAR of 64 branches"),
     "pars": (lambda: pars(1_024), COMPILED, "1,024 PARs"),
     "pars-words": (lambda: pars_behind_words(1_024, 1_000), COMPILED, "the same where 1,000 variables have words"),
