@@ -64,13 +64,13 @@ fn put_failed(out: &mut Answer, direction: &str, link: Link) {
     out.put(" failed");
 }
 
-/// A report, or what failed: `in0 failed`, `out0 failed` or `out of memory`.
+/// A report, or what failed: `in0 failed` or `out0 failed`.
 fn put_outcome(out: &mut Answer, ran: Result<Report, RunError>) {
     match ran {
         Ok(report) => put_report(out, report),
         Err(RunError::ReadFailed(link)) => put_failed(out, "in", link),
         Err(RunError::WriteFailed(link)) => put_failed(out, "out", link),
-        Err(RunError::Memory) => out.put("out of memory"),
+        Err(RunError::Memory) => out.fail(),
     }
 }
 
