@@ -39,9 +39,9 @@ pub(crate) fn writer<'c>(
 }
 
 impl<'c> CaseWriter<'c> {
-    /// Whether it took a byte.
+    /// Whether it took a byte, for which there may have been no room.
     pub(crate) fn has_taken(&self) -> bool {
-        !self.taken.as_str().is_empty()
+        !self.taken.as_str().is_empty() || self.taken.is_out_of_memory()
     }
 
     /// Appends the bytes that it took.
