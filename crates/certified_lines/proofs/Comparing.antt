@@ -19,6 +19,7 @@ use Rattle.prefix_decoder.specs.declared.function.Fun.TheVariants as fun
 use Rattle.occam_parser.specs.declared.tree.PairOperator.TheVariants as pair
 use Rattle.occam_parser.specs.declared.tree.PrefixOperator.{PrefixOperator}
 use Rattle.occam_parser.specs.declared.tree.PrefixOperator.TheVariants as prefix
+use Rattle.states.specs.declared.known.Known.{Known}
 use Rattle.states.specs.declared.known.Source.TheVariants.{Nowhere}
 use Rattle.states.specs.State.{Facts, known}
 use Rattle.local_rules.specs.WordRules.{number_in, result_source, equal_source, known_constant}
@@ -32,7 +33,8 @@ use Rattle.certified_lines.specs.StraightRules.{Setting, Told, FallOn, with_push
 use Rattle.certified_lines.specs.Instructions.{with_a, with_result}
 use Rattle.certified_lines.specs.Numbers.{IsNumberIn}
 use Rattle.certified_lines.specs.Scopes.{Scene, HoldsScope, IsScope}
-use Rattle.certified_lines.specs.Telling.{StayBefore, AreAllowed, PushedFact, IsFree, OperandTells, AreTold, keeps}
+use Rattle.certified_lines.specs.Telling.{StayBefore, IsQuiet, ComesFromNowhere, AreAllowed, PushedFact, IsFree}
+use Rattle.certified_lines.specs.Telling.{OperandTells, AreTold, keeps}
 use Rattle.certified_lines.specs.OperandLaws.{IsOnly, leaves_below, prefix_range, PrefixesTell, ComparisonsTell}
 use Rattle.certified_lines.proofs.StraightRules.{fall_both}
 use Rattle.certified_lines.proofs.Telling.{like_of, like_both}
@@ -43,7 +45,7 @@ use Rattle.certified_lines.proofs.Numbers.{nothing_is_told_from_nowhere}
 use Rattle.certified_lines.proofs.Named.{operands_name}
 use Rattle.certified_lines.proofs.Ranges.{checked_by, constant_ranged, negative, not_ranged}
 use Rattle.certified_lines.proofs.Operands.{both_tell, operations_tell, allowed_first, allowed_rest}
-use Rattle.certified_lines.proofs.Operands.{both_true}
+use Rattle.certified_lines.proofs.Operands.{both_true, quiet_of, still_nowhere}
 use Rattle.certified_lines.proofs.Arithmetic.{replaced, fewer_kept, kept_of, first_of}
 
 pub greater_range : (r s : Ends) → result_range binary.Greater r s ≡ Some truths
@@ -179,6 +181,14 @@ below_fits c d is =
 pub only_fits : (c : ℤ) (r : Ends) → IsRange r → IsOnly (Some c) r → FitsSigned w32 c
 only_fits c r x only = subst (FitsSigned w32) (ap (λ (e : Ends). e.lo) only) x.lo_fits
 
+-- an operand was compared with a constant, and nothing is told of words where the operand's code tells nothing
+pub record Compared (g : Setting) (ps qs : List Piece) (t : ℕ) (leaf : Bool) (before : Told) : Type 0 where
+  pub told : PushedFact g qs t false leaf truths before
+  pub left : Known
+  pub right : Known
+  pub source : told.after.stack.a.source ≡ result_source binary.Greater left right
+  pub quiet : ComesFromNowhere g ps → IsQuiet t left.source × IsQuiet t right.source
+
 module _ (g : Scene) (top t : ℕ) (es : List Entry) (scope : IsScope g top es) (low : top ≤ t) (few : IsFree t)
     (before : Told) (holds : HoldsScope g es before.frame) where
   -- whether the first one is greater
@@ -213,24 +223,33 @@ module _ (g : Scene) (top t : ℕ) (es : List Entry) (scope : IsScope g top es) 
       }
 
   -- a constant that is pushed below an operand is compared with it
-  over_constant : (small : Bool) (ps : List Piece) (leaf : Bool) (r : Ends) (c : ℤ) → IsRange r → FitsSigned w32 c
+  pub over_constant : (small : Bool) (ps : List Piece) (leaf : Bool) (r : Ends) (c : ℤ) → IsRange r → FitsSigned w32 c
       → ((k : Told) → k.frame ≡ before.frame → PushedFact g.setting ps t leaf small r k)
-      → PushedFact g.setting (after_constant c small ps ++ operates GREATER ∷ []) t false leaf truths before
+      → Compared g.setting ps (after_constant c small ps ++ operates GREATER ∷ []) t leaf before
   over_constant true ps leaf r c x fits tells =
       let k : Told = with_pushed (known_constant c) before in
       let first = tells k refl in
       let last = first.after in
       record {
-        after = with_result
-            (record { fact = number_in truths; source = result_source binary.Greater last.stack.b last.stack.a }) last;
-        falls = fall_both (constants_are_known g.setting c before) (fall_both first.falls
-            (results_lie_in_ranges g.setting GREATER binary.Greater (ranges.constant c) r truths last
-            operands_name.greater (record { is = (first.below refl).fact; range = constant_ranged c fits })
-            (record { is = first.a; range = x }) (greater_range (ranges.constant c) r)));
-        a = refl;
-        stay = first.stay;
-        below = λ is. like_of (ap (λ (j : Told). j.stack.c) (first.alone is));
-        alone = λ is. absurd (cc is);
+        told = record {
+          after = with_result
+              (record { fact = number_in truths; source = result_source binary.Greater last.stack.b last.stack.a }) last;
+          falls = fall_both (constants_are_known g.setting c before) (fall_both first.falls
+              (results_lie_in_ranges g.setting GREATER binary.Greater (ranges.constant c) r truths last
+              operands_name.greater (record { is = (first.below refl).fact; range = constant_ranged c fits })
+              (record { is = first.a; range = x }) (greater_range (ranges.constant c) r)));
+          a = refl;
+          stay = first.stay;
+          below = λ is. like_of (ap (λ (j : Told). j.stack.c) (first.alone is));
+          alone = λ is. absurd (cc is);
+        };
+        left = last.stack.b;
+        right = last.stack.a;
+        source = refl;
+        quiet = λ calm. (
+          quiet_of t last.stack.b.source (still_nowhere (known_constant c) last.stack.b (first.below refl) refl),
+          quiet_of t last.stack.a.source (calm k last first.falls),
+        );
       }
   over_constant false ps leaf r c x fits tells =
       let first = tells before refl in
@@ -240,38 +259,50 @@ module _ (g : Scene) (top t : ℕ) (es : List Entry) (scope : IsScope g top es) 
       let end : Told = with_result
       (record { fact = number_in truths; source = result_source binary.Greater last.stack.b last.stack.a }) last in
       record {
-        after = end;
-        falls = subst (λ (rs : List Piece). FallOn g.setting rs before end)
-            (sym (append_assoc ps (constant c ∷ operates REVERSE ∷ []) (operates GREATER ∷ [])))
-            (fall_both first.falls (fall_both (constants_are_known g.setting c k)
-            (fall_both (registers_are_reversed g.setting under)
-            (results_lie_in_ranges g.setting GREATER binary.Greater (ranges.constant c) r truths last
-            operands_name.greater (record { is = refl; range = constant_ranged c fits })
-            (record { is = first.a; range = x }) (greater_range (ranges.constant c) r)))));
-        a = refl;
-        stay = first.stay;
-        below = λ is. like_of (ap (λ (j : Told). j.stack.b) (first.alone is));
-        alone = λ is. absurd (cc is);
+        told = record {
+          after = end;
+          falls = subst (λ (rs : List Piece). FallOn g.setting rs before end)
+              (sym (append_assoc ps (constant c ∷ operates REVERSE ∷ []) (operates GREATER ∷ [])))
+              (fall_both first.falls (fall_both (constants_are_known g.setting c k)
+              (fall_both (registers_are_reversed g.setting under)
+              (results_lie_in_ranges g.setting GREATER binary.Greater (ranges.constant c) r truths last
+              operands_name.greater (record { is = refl; range = constant_ranged c fits })
+              (record { is = first.a; range = x }) (greater_range (ranges.constant c) r)))));
+          a = refl;
+          stay = first.stay;
+          below = λ is. like_of (ap (λ (j : Told). j.stack.b) (first.alone is));
+          alone = λ is. absurd (cc is);
+        };
+        left = known_constant c;
+        right = k.stack.a;
+        source = refl;
+        quiet = λ calm. (tt, quiet_of t k.stack.a.source (calm before k first.falls));
       }
 
   -- an operand is compared with a constant that is pushed on it
-  under_constant : (ps : List Piece) (leaf small : Bool) (r : Ends) (c : ℤ) → IsRange r → FitsSigned w32 c
+  pub under_constant : (ps : List Piece) (leaf small : Bool) (r : Ends) (c : ℤ) → IsRange r → FitsSigned w32 c
       → PushedFact g.setting ps t leaf small r before
-      → PushedFact g.setting ((ps ++ constant c ∷ []) ++ operates GREATER ∷ []) t false leaf truths before
+      → Compared g.setting ps ((ps ++ constant c ∷ []) ++ operates GREATER ∷ []) t leaf before
   under_constant ps leaf small r c x fits first =
       let k = first.after in
       let last : Told = with_pushed (known_constant c) k in
       record {
-        after = with_result
-            (record { fact = number_in truths; source = result_source binary.Greater last.stack.b last.stack.a }) last;
-        falls = fall_both (fall_both first.falls (constants_are_known g.setting c k))
-            (results_lie_in_ranges g.setting GREATER binary.Greater r (ranges.constant c) truths last
-            operands_name.greater (record { is = first.a; range = x })
-            (record { is = refl; range = constant_ranged c fits }) (greater_range r (ranges.constant c)));
-        a = refl;
-        stay = first.stay;
-        below = λ is. like_of (ap (λ (j : Told). j.stack.b) (first.alone is));
-        alone = λ is. absurd (cc is);
+        told = record {
+          after = with_result
+              (record { fact = number_in truths; source = result_source binary.Greater last.stack.b last.stack.a }) last;
+          falls = fall_both (fall_both first.falls (constants_are_known g.setting c k))
+              (results_lie_in_ranges g.setting GREATER binary.Greater r (ranges.constant c) truths last
+              operands_name.greater (record { is = first.a; range = x })
+              (record { is = refl; range = constant_ranged c fits }) (greater_range r (ranges.constant c)));
+          a = refl;
+          stay = first.stay;
+          below = λ is. like_of (ap (λ (j : Told). j.stack.b) (first.alone is));
+          alone = λ is. absurd (cc is);
+        };
+        left = k.stack.a;
+        right = known_constant c;
+        source = refl;
+        quiet = λ calm. (quiet_of t k.stack.a.source (calm before k first.falls), tt);
       }
 
 -- A comparison of two operands, which may be constants.
@@ -303,7 +334,7 @@ module _ (g : Scene) (top t : ℕ) (es : List Entry) (scope : IsScope g top es) 
       fewer_kept g.setting (after_constant c a.small a.first ++ operates GREATER ∷ []) t (a.leaf && b.leaf) a.leaf
       truths before (first_of a.leaf b.leaf)
       (over_constant g top t es scope low few before holds a.small a.first a.leaf r c x fits
-      (left_alone (left_stores a.small a.first all)))
+      (left_alone (left_stores a.small a.first all))).told
     where
       left_stores : (small : Bool) (ps : List Piece)
           → AreAllowed g (after_constant c small ps ++ operates GREATER ∷ []) → AreAllowed g ps
@@ -322,7 +353,7 @@ module _ (g : Scene) (top t : ℕ) (es : List Entry) (scope : IsScope g top es) 
       before (first_of a.leaf b.leaf)
       (under_constant g top t es scope low few before holds a.first a.leaf a.small r c x fits
       (left_alone (allowed_first g a.first (constant c ∷ [])
-      (allowed_first g (a.first ++ constant c ∷ []) (operates GREATER ∷ []) all)) before refl))
+      (allowed_first g (a.first ++ constant c ∷ []) (operates GREATER ∷ []) all)) before refl)).told
 
   -- the code of a comparison by the constants that it has
   abbrev Compares : Comparison → (first second : Option ℤ) → Type 0

@@ -6,8 +6,7 @@ use Rattle.std.specs.Prelude.{option_map}
 use Rattle.std.specs.Int.{w32}
 use Rattle.std.specs.Ordering.{int_eq}
 use Rattle.word_arithmetic.specs.Word.{least_word}
-use Rattle.word_arithmetic.specs.Range as ranges
-use Rattle.word_arithmetic.specs.Range.{Ends, IsRange, truths, words_above, words_below, word_difference_range}
+use Rattle.word_arithmetic.specs.Range.{Ends, IsRange, truths, words_above, words_below}
 use Rattle.word_arithmetic.specs.declared.compare.Comparison.{Comparison}
 use Rattle.word_arithmetic.specs.declared.compare.Comparison.TheVariants as comparison
 use Rattle.word_arithmetic.specs.declared.binary.Binary.TheVariants as binary
@@ -26,7 +25,7 @@ use Rattle.rulings.specs.Rulings.{goes_on}
 use Rattle.rulings.specs.Pointers.{pointer_of, reads_bytes, word_read, byte_read}
 use Rattle.local_rules.specs.LocalRules.{local_operation_rule, local_rule}
 use Rattle.local_rules.specs.MemoryRules.{words_behind, with_fact_a}
-use Rattle.local_rules.specs.WordRules.{number_in, known_constant, constant_in, greater_source, equal_source}
+use Rattle.local_rules.specs.WordRules.{number_in, constant_in, greater_source, equal_source}
 use Rattle.local_rules.specs.WordRules.{result_source}
 use Rattle.local_rules.specs.WordRules.{word_and_constant, test_of}
 use Rattle.facts.specs.Rules.{rule, rule_of, instruction_rule, operation_rule}
@@ -37,20 +36,18 @@ use Rattle.code_pieces.specs.Pieces.{Piece, Direct, operates, constant}
 use Rattle.line_pieces.specs.Expressions.{Operand, both, comes_last, pushed, pushes_of, pair_code, negates}
 use Rattle.line_pieces.specs.Expressions.{after_constant}
 use Rattle.line_pieces.specs.Expressions.{next_above, next_below, on_constant, below_constant, negated_unless, loads_at}
-use Rattle.certified_lines.specs.StraightRules.{Setting, Told, Falls, FallOn, with_pushed, state_of}
+use Rattle.certified_lines.specs.StraightRules.{Setting, Told, Falls, FallOn, state_of}
 use Rattle.certified_lines.specs.Instructions.{with_a, with_result}
 use Rattle.certified_lines.specs.Scopes.{Scene, HoldsScope, IsScope}
 use Rattle.certified_lines.specs.Telling.{StayBefore, IsQuiet, ComesFromNowhere, AreFromNowhere, AreAllowed, PushedFact}
 use Rattle.certified_lines.specs.Telling.{IsFree, OperandTells}
 use Rattle.certified_lines.specs.OperandLaws.{IsOnly}
 use Rattle.certified_lines.proofs.StraightRules.{fall_both}
-use Rattle.certified_lines.proofs.Instructions.{constants_are_known, registers_are_reversed}
 use Rattle.certified_lines.proofs.Numbers.{results_lie_in_ranges, comparisons_are_truths}
 use Rattle.certified_lines.proofs.Named.{operands_name}
-use Rattle.certified_lines.proofs.Ranges.{constant_ranged}
-use Rattle.certified_lines.proofs.Operands.{both_tell, allowed_first, allowed_rest, quiet_of, still_nowhere}
+use Rattle.certified_lines.proofs.Operands.{both_tell, allowed_first, allowed_rest, quiet_of}
 use Rattle.certified_lines.proofs.Comparing.{greater_range, truths_ranged, zero_fits, above_fits, below_fits, only_fits}
-use Rattle.certified_lines.proofs.Comparing.{either_differ}
+use Rattle.certified_lines.proofs.Comparing.{either_differ, Compared, over_constant, under_constant}
 use Rattle.certified_lines.specs.TestLaws.{ShowsNothing}
 use Rattle.certified_lines.proofs.Sources.{last_falls, one_falls, source_after, no_break, used}
 use Rattle.word_arithmetic.specs.Range.{range_between, left_by}
@@ -201,6 +198,20 @@ negated_behind g ps qs t before shown =
     subst (λ (rs : List Piece). ShowsNothing g rs t before) (append_assoc ps qs (negates ∷ []))
     (negated_shows g (ps ++ qs) t before shown)
 
+-- a comparison with a constant of an operand that comes from nowhere
+told_from_nowhere : (g : Setting) (ps qs : List Piece) (t : ℕ) (leaf : Bool) (before : Told)
+    → Compared g ps qs t leaf before → ComesFromNowhere g ps → ShowsNothing g qs t before
+told_from_nowhere g ps qs t leaf before c calm =
+    let told = c.told in
+    let quiet = c.quiet calm in
+    record {
+      after = told.after;
+      falls = told.falls;
+      fact = told.a;
+      source = subst (IsQuiet t) (sym c.source) (greater_quiet t c.left c.right quiet.0 quiet.1);
+      stay = told.stay;
+    }
+
 -- what is allowed behind a constant
 constant_allowed : (g : Scene) (c : ℤ) (small : Bool) (ps : List Piece)
     → AreAllowed g (after_constant c small ps ++ operates GREATER ∷ []) → AreAllowed g ps
@@ -264,68 +275,6 @@ module _ (g : Scene) (top t : ℕ) (es : List Entry) (scope : IsScope g top es) 
         stay = p.stay;
       }
 
-  over_shows : (small : Bool) (ps : List Piece) (leaf : Bool) (r : Ends) (c : ℤ) → IsRange r → FitsSigned w32 c
-      → ComesFromNowhere g.setting ps
-      → ((k : Told) → k.frame ≡ before.frame → PushedFact g.setting ps t leaf small r k)
-      → ShowsNothing g.setting (after_constant c small ps ++ operates GREATER ∷ []) t before
-  over_shows true ps leaf r c x fits calm tells =
-      let k : Told = with_pushed (known_constant c) before in
-      let first = tells k refl in
-      let last = first.after in
-      record {
-        after = with_result
-            (record { fact = number_in truths; source = result_source binary.Greater last.stack.b last.stack.a }) last;
-        falls = fall_both (constants_are_known g.setting c before) (fall_both first.falls
-            (results_lie_in_ranges g.setting GREATER binary.Greater (ranges.constant c) r truths last
-            operands_name.greater (record { is = (first.below refl).fact; range = constant_ranged c fits })
-            (record { is = first.a; range = x }) (greater_range (ranges.constant c) r)));
-        fact = refl;
-        source = greater_quiet t last.stack.b last.stack.a
-            (quiet_of t last.stack.b.source (still_nowhere (known_constant c) last.stack.b (first.below refl) refl))
-            (quiet_of t last.stack.a.source (calm k last first.falls));
-        stay = first.stay;
-      }
-  over_shows false ps leaf r c x fits calm tells =
-      let first = tells before refl in
-      let k = first.after in
-      let under : Told = with_pushed (known_constant c) k in
-      let last : Told = record under { stack = record { a = k.stack.a; b = known_constant c; c = k.stack.b } } in
-      let end : Told = with_result
-      (record { fact = number_in truths; source = result_source binary.Greater last.stack.b last.stack.a }) last in
-      record {
-        after = end;
-        falls = subst (λ (rs : List Piece). FallOn g.setting rs before end)
-            (sym (append_assoc ps (constant c ∷ operates REVERSE ∷ []) (operates GREATER ∷ [])))
-            (fall_both first.falls (fall_both (constants_are_known g.setting c k)
-            (fall_both (registers_are_reversed g.setting under)
-            (results_lie_in_ranges g.setting GREATER binary.Greater (ranges.constant c) r truths last
-            operands_name.greater (record { is = refl; range = constant_ranged c fits })
-            (record { is = first.a; range = x }) (greater_range (ranges.constant c) r)))));
-        fact = refl;
-        source = greater_quiet t (known_constant c) k.stack.a tt
-            (quiet_of t k.stack.a.source (calm before k first.falls));
-        stay = first.stay;
-      }
-
-  under_shows : (ps : List Piece) (leaf small : Bool) (r : Ends) (c : ℤ) → IsRange r → FitsSigned w32 c
-      → ComesFromNowhere g.setting ps → PushedFact g.setting ps t leaf small r before
-      → ShowsNothing g.setting ((ps ++ constant c ∷ []) ++ operates GREATER ∷ []) t before
-  under_shows ps leaf small r c x fits calm first =
-      let k = first.after in
-      let last : Told = with_pushed (known_constant c) k in
-      record {
-        after = with_result
-            (record { fact = number_in truths; source = result_source binary.Greater last.stack.b last.stack.a }) last;
-        falls = fall_both (fall_both first.falls (constants_are_known g.setting c k))
-            (results_lie_in_ranges g.setting GREATER binary.Greater r (ranges.constant c) truths last
-            operands_name.greater (record { is = first.a; range = x })
-            (record { is = refl; range = constant_ranged c fits }) (greater_range r (ranges.constant c)));
-        fact = refl;
-        source = greater_quiet t k.stack.a (known_constant c)
-            (quiet_of t k.stack.a.source (calm before k first.falls)) tt;
-        stay = first.stay;
-      }
-
 -- A comparison of two operands that come from nowhere, and may be constants.
 module _ (g : Scene) (top t : ℕ) (es : List Entry) (scope : IsScope g top es) (low : top ≤ t) (few : IsFree t)
     (before : Told) (holds : HoldsScope g es before.frame) (a b : Operand) (r s : Ends) (x : IsRange r) (y : IsRange s)
@@ -351,15 +300,17 @@ module _ (g : Scene) (top t : ℕ) (es : List Entry) (scope : IsScope g top es) 
       → AreAllowed g (after_constant c a.small a.first ++ operates GREATER ∷ [])
       → ShowsNothing g.setting (after_constant c a.small a.first ++ operates GREATER ∷ []) t before
   over c fits all =
-      over_shows g top t es scope low few before holds a.small a.first a.leaf r c x fits calm.0
-      (left_alone (constant_allowed g c a.small a.first all))
+      told_from_nowhere g.setting a.first (after_constant c a.small a.first ++ operates GREATER ∷ []) t a.leaf before
+      (over_constant g top t es scope low few before holds a.small a.first a.leaf r c x fits
+      (left_alone (constant_allowed g c a.small a.first all))) calm.0
 
   under : (c : ℤ) → FitsSigned w32 c → AreAllowed g ((a.first ++ constant c ∷ []) ++ operates GREATER ∷ [])
       → ShowsNothing g.setting ((a.first ++ constant c ∷ []) ++ operates GREATER ∷ []) t before
   under c fits all =
-      under_shows g top t es scope low few before holds a.first a.leaf a.small r c x fits calm.0
+      told_from_nowhere g.setting a.first ((a.first ++ constant c ∷ []) ++ operates GREATER ∷ []) t a.leaf before
+      (under_constant g top t es scope low few before holds a.first a.leaf a.small r c x fits
       (left_alone (allowed_first g a.first (constant c ∷ [])
-      (allowed_first g (a.first ++ constant c ∷ []) (operates GREATER ∷ []) all)) before refl)
+      (allowed_first g (a.first ++ constant c ∷ []) (operates GREATER ∷ []) all)) before refl)) calm.0
 
   abbrev Shows : Comparison → (first second : Option ℤ) → Type 0
   Shows op first second =
