@@ -1,10 +1,16 @@
 -- What is known of open files, by what is known of the files themselves.
-use Rattle.std.specs.Prelude.{ℕ, List, Option}
+use Rattle.std.specs.Prelude.{ℕ, Bool, true, false, List, Option}
 use Rattle.std.specs.Io.Buffered.{reader_remaining, writer_contents}
 use Rattle.tpm_actions.specs.declared.opened.FileReader.{FileReader}
 use Rattle.tpm_actions.specs.declared.opened.FileReader.TheVariants as readers
 use Rattle.tpm_actions.specs.declared.opened.FileWriter.{FileWriter}
 use Rattle.tpm_actions.specs.declared.opened.FileWriter.TheVariants as writers
+
+-- whether what is read is a regular file
+abbrev pub is_regular : {F I : Type 0} → FileReader F I → Bool
+is_regular (readers.Regular file) = true
+is_regular (readers.Other file) = false
+is_regular (readers.Standard stream) = false
 
 -- the bytes that are left to be read, where those of the file are known
 abbrev pub reader_left : {F I : Type 0} → (F → Option (List ℕ)) → (I → Option (List ℕ)) → FileReader F I

@@ -1,6 +1,6 @@
 //! Files by path.
 
-ghost use Rattle.std.specs.Prelude.{◌≡◌, ℕ, Bool, false, List, Result, Ok, Err, MatchResult, IfOk, is_ok};
+ghost use Rattle.std.specs.Prelude.{◌≡◌, ℕ, Bool, true, false, List, Result, Ok, Err, MatchResult, IfOk, is_ok};
 ghost use Rattle.std.specs.Global.{Box};
 ghost use Rattle.tpm_actions.specs.declared.extent.Extent.{Extent};
 ghost use Rattle.tpm_actions.specs.declared.files.FileFault.{FileFault};
@@ -82,7 +82,9 @@ pub struct SystemFiles<'a, R, P> {
 
 impl<'a, R, P> SystemFiles<'a, R, P> {
     /// The files of the runtime and this standard output. No file is opened yet.
-    pub fn new(runtime: &'a R, output: &'a P) -> Self {
+    pub fn new(runtime: &'a R, output: &'a P) -> Self
+        ensures { result ≡ record { runtime = runtime.entry; output = output.entry; are_regular = true } }
+    {
         SystemFiles {
             runtime,
             output,
@@ -116,13 +118,13 @@ impl<'a, R: rt::Files + AllocGlobal + io::Input, P: Print> Files for SystemFiles
 
     type Writer = Writing<FileWriter<R::File, io::Printer<'a, P>>>;
 
-    ghost reads = { λ before path extent bytes after. after.runtime ≡ before.runtime };
+    ghost reads = { λ before path extent bytes after. after ≡ before };
 
-    ghost opens = { λ before path reader after. after.runtime ≡ before.runtime };
+    ghost opens = { λ before path reader after. after ≡ record before { are_regular = after.are_regular } };
 
-    ghost creates = { λ before path writer after. after.runtime ≡ before.runtime };
+    ghost creates = { λ before path writer after. after ≡ before };
 
-    ghost closes = { λ before writer closed after. after.runtime ≡ before.runtime };
+    ghost closes = { λ before writer closed after. after ≡ before };
 
     fn read(&mut self, path: &str, extent: Extent) -> Result<Vec<u8>, FileFault> {
         let file = fs::File::open(self.runtime, path)?;
@@ -141,7 +143,7 @@ impl<'a, R: rt::Files + AllocGlobal + io::Input, P: Print> Files for SystemFiles
     }
 
     fn close(&mut self, writer: Box<Self::Writer>) -> Result<(), Failed>
-        ensures { self.new.runtime ≡ self.old.runtime }
+        ensures { self.new ≡ self.old }
     {
         Box::into_inner(writer)
             .into_inner()

@@ -3,7 +3,7 @@
 //! for.
 
 ghost use Rattle.std.specs.Prelude.{◌≡◌, IfOk};
-ghost use Rattle.tpm_actions.specs.Opened.{reader_left, writer_held};
+ghost use Rattle.tpm_actions.specs.Opened.{is_regular, reader_left, writer_held};
 
 use crate::files::FileFault;
 use std::alloc::Global;
@@ -34,7 +34,9 @@ impl<F: Read + OpenFile + Drop, I: Read> FileReader<F, I> {
     }
 
     /// Whether it is a regular file.
-    pub fn is_regular(&self) -> bool {
+    pub fn is_regular(&self) -> bool
+        ensures { result ≡ is_regular self.now }
+    {
         matches!(self, FileReader::Regular(_))
     }
 }

@@ -1,5 +1,7 @@
 //! Each instruction of a run, before it is executed.
 
+ghost use Rattle.std.specs.Prelude.{◌≡◌};
+
 use machine::{Checked, Observer};
 use machine_state::{Task, Word};
 use std::alloc::{AllocError, Global};
@@ -29,7 +31,10 @@ pub struct Tracer<T: Write + Drop> {
 }
 
 impl<T: Write + Drop> Tracer<T> {
-    pub fn new(alloc: Global, is_wanted: bool, trace: T) -> Self {
+    /// A tracer that writes to this, if that is wanted.
+    pub fn new(alloc: Global, is_wanted: bool, trace: T) -> Self
+        ensures { result ≡ record { alloc = alloc; is_wanted = is_wanted; trace = trace } }
+    {
         Tracer {
             alloc,
             is_wanted,
