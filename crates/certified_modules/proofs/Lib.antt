@@ -1,0 +1,16 @@
+pub mod SameNumbers
+pub mod JoinedEntries
+pub mod Ways
+pub mod Scheduling
+pub mod RootRows
+pub mod LeavingRules
+pub mod PieceLists
+pub mod TablesPlaced
+pub mod AddressRules
+pub mod PiecesPass
+pub mod Certifying
+pub mod PassingLaws
+pub mod Shapes
+pub mod ApartCertified
+pub mod SmallPieces
+pub mod RowsSay
