@@ -1,0 +1,12 @@
+pub mod Keeping
+pub mod Variables
+pub mod Assigning
+pub mod Declaring
+pub mod Zeroing
+pub mod Messages
+pub mod Exchanging
+pub mod Receiving
+pub mod Sending
+pub mod Actions
+pub mod Checked
+pub mod Roots
