@@ -7,14 +7,13 @@ use Rattle.program_meaning.specs.Sequential.{IsSequentialProgram}
 use Rattle.link_runs.specs.ByLink.{ByLink}
 use Rattle.link_runs.specs.FirstInFirstOut.{Supply, RunMoment, IsRun, IsOver}
 use Rattle.meant_runs.specs.Meant.{AreBytes, IsReportOf, all_bytes_in, in_order}
-use Rattle.meant_programs.specs.Mains.{MainDeclaresNoChannel}
 use Rattle.compiler.specs.Compiled.{IsCompiled}
 
--- These bytes are what `compile` makes of the source of a sequential program whose main declares no channel. Wherever the run of
--- the module that they say is over, with whatever bytes to come in and wherever something listens, what was read and
--- written and whether it is finished are what the program means.
+-- These bytes are what `compile` makes of the source of a sequential program. Wherever the run of the module that they
+-- say is over, with whatever bytes to come in and wherever something listens, what was read and written and whether it
+-- is finished are what the program means.
 abbrev pub CompiledProgramsDoWhatTheyMean : Type 0
 CompiledProgramsDoWhatTheyMean = (source bytes : List ℕ) (compiled : IsCompiled source bytes) (m : Contents)
     (inputs : ByLink Supply) (writers : ByLink Bool) (n : ℕ) (s : RunMoment) → IsSequentialProgram compiled.items
-    → MainDeclaresNoChannel compiled.items → Format bytes m → AreBytes inputs → IsRun m inputs writers n s
+    → Format bytes m → AreBytes inputs → IsRun m inputs writers n s
     → IsOver m writers s → IsReportOf (meaning compiled.items (all_bytes_in inputs) (in_order writers)) s

@@ -21,7 +21,6 @@ use Rattle.program_work.specs.Readings.{capped}
 use Rattle.program_work.specs.Programs.{names_in}
 use Rattle.meant_code.specs.OwnCode.{OperandFits}
 use Rattle.meant_runs.specs.Meant.{IsMeant, RunsAsMeant}
-use Rattle.meant_programs.specs.Mains.{MainDeclaresNoChannel}
 use Rattle.meant_programs.proofs.Programs.{programs_run_as_meant}
 use Rattle.compiler.specs.Compiled.{IsGenerated, IsTooLarge}
 use Rattle.compiler.specs.LinkLengths.{link_lengths}
@@ -31,14 +30,14 @@ meant : (items : List ProgramItem) (code : Code) (bytes : List ℕ) → BreaksNo
     → items_have_words items ≡ true → AllByRecursion OperandFits code.pieces → IfSome (code_of items) (λ c. code ≡ c)
     → (says : Says (apart code.pieces) code.labels (link_lengths items) bytes)
     → Certifies (laid_module (apart code.pieces) code.labels (link_lengths items) says.arrangement)
-    → IsSequentialProgram items → MainDeclaresNoChannel items → IsMeant items bytes
-meant items code bytes unbroken has_words fit is says certifies sequential apart_main m format =
+    → IsSequentialProgram items → IsMeant items bytes
+meant items code bytes unbroken has_words fit is says certifies sequential m format =
     let found = sequential_programs_have_code items sequential in
     let same : code ≡ found.0 = subst (λ o. IfSome o (λ c. code ≡ c)) found.1 is in
     let laid = laid_module (apart code.pieces) code.labels (link_lengths items) says.arrangement in
     subst (λ (c : Contents). RunsAsMeant c items)
     (one_contents bytes laid m (record { version = Two; file = says.format }) format)
-    (programs_run_as_meant items code (link_lengths items) bytes unbroken sequential apart_main has_words
+    (programs_run_as_meant items code (link_lengths items) bytes unbroken sequential has_words
     (found.1 ∙ ap Some (sym same)) says fit ∣ certifies.runs_well ∣₁)
 
 generated : (items : List ProgramItem) (code : Code) (bytes : List ℕ) → BreaksNoRule items

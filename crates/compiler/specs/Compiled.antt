@@ -27,7 +27,6 @@ use Rattle.line_pieces.specs.Limits.{is_too_much}
 use Rattle.certified_code.specs.CertifiedModules.{Certifies}
 use Rattle.code_generator.specs.Programs.{code_of}
 use Rattle.meant_runs.specs.Meant.{IsMeant}
-use Rattle.meant_programs.specs.Mains.{MainDeclaresNoChannel}
 use Rattle.compiler.specs.declared.source.CompileFault.{CompileFault}
 use Rattle.compiler.specs.declared.source.CompileFault.TheVariants as faults
 use Rattle.compiler.specs.LinkLengths.{link_lengths}
@@ -47,13 +46,12 @@ IsItsCode items bytes =
 abbrev pub HasCode : List ProgramItem → Type 0
 HasCode items = (code : Code) × (code_of items ≡ Some code)
 
--- What `generate` makes of a program. A sequential one has code, and its module does what it means, if main declares no
--- channel, for which a sequential program has no use.
+-- What `generate` makes of a program. A sequential one has code, and its module does what it means.
 pub record IsGenerated (items : List ProgramItem) (bytes : List ℕ) : Type 0 where
   pub is_module : IsModuleFor items bytes
   pub is_code : IsItsCode items bytes
   pub has_code : IsSequentialProgram items → HasCode items
-  pub is_meant : IsSequentialProgram items → MainDeclaresNoChannel items → IsMeant items bytes
+  pub is_meant : IsSequentialProgram items → IsMeant items bytes
 
 -- The code of a program is more than is written, or its module would be above a limit of the format.
 abbrev pub IsMuch : List ProgramItem → Code → Type 0

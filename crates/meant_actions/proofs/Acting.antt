@@ -51,9 +51,8 @@ pub temporary_within : (g : Ground) (top : ℕ) (es : List Entry) (env : Environ
     → Carries g top es env m → counted top < g.words → top < g.words
 unfolding counted
 temporary_within g top es env m carries is =
-    let room = carries.room in
-    let few = carries.frame.few in
-    omega (arith, room, few, is)
+    let few = carries.counted in
+    omega (arith, few, is)
 
 pub next_word : (t : ℕ) → t ≤ MAX_DATA_WORDS → word_after t 1 ≡ t + 1
 unfolding word_after counted
@@ -63,7 +62,7 @@ next_word t few = omega (arith, few)
 
 pub skips_behave : SkipsBehave
 skips_behave c g top at to es env h ports begins laid.none =
-    over (record { at = refl; carries = begins.carries; bytes = begins.bytes })
+    over (record { at = refl; carries = begins.carries })
 
 pub stops_behave : StopsBehave
 unfolding instruction_of op_of

@@ -37,18 +37,17 @@ use Rattle.meant_lines.proofs.Words.{changes_writing, other_word}
 use Rattle.meant_lines.proofs.Carrying.{outer_words_stay}
 use Rattle.meant_lines.proofs.Instructions.{words_are_stored, words_are_moved, distant_words_are_stored}
 use Rattle.meant_lines.proofs.Instructions.{bytes_are_stored, waiting_is_pushed_below}
+use Rattle.meant_lines.proofs.Housing.{after_further}
 use Rattle.meant_lines.proofs.Pushing.{carries_after, word_is}
+use Rattle.meant_lines.proofs.WrittenBytes.{first_byte, second_byte, third_byte, fourth_byte}
 use Rattle.meant_actions.specs.Acting.{EndsAt, Begins, AreWithin, IsPushed, IsSubscript, IsScalar, IsInWords}
 use Rattle.meant_actions.specs.Acting.{IsVariable, whole_scalar, array_element}
 use Rattle.meant_actions.specs.Assigning.{AssignmentsBehave}
-use Rattle.meant_actions.specs.Bytes.{HasBytes}
 use Rattle.meant_actions.proofs.Acting.{straight_behaves, first_within, rest_within, temporary_within, next_word}
 use Rattle.meant_actions.proofs.Addressing.{Addressed, known_addressed, word_selected, byte_selected, offset_selects}
 use Rattle.meant_actions.proofs.Addressing.{elements_have_places}
-use Rattle.meant_actions.proofs.Bytes.{free_stays, word_stays}
-use Rattle.meant_actions.proofs.Messages.{first_byte, second_byte, third_byte, fourth_byte}
-use Rattle.meant_actions.proofs.Variables.{whole, element, element_place, element_word, with_element, element_stays}
-use Rattle.meant_actions.proofs.Variables.{scalar_target, scalar_below, element_below, element_target_is, LeavesStored}
+use Rattle.meant_actions.proofs.Variables.{whole, element, element_place, element_word, with_element, scalar_target}
+use Rattle.meant_actions.proofs.Variables.{scalar_within, element_within, element_target_is, LeavesStored}
 use Rattle.meant_actions.proofs.Variables.{scalar_put, element_put}
 
 -- ---- a store
@@ -190,14 +189,15 @@ moved_there g w i t v k frame within value fits inside =
 -- ---- elements
 
 module _ (g : Ground) (top next : ℕ) (es : List Entry) (env : Environment) (name : List ℕ) (type : ValueType)
-    (size n w i : ℕ) (e : Expression) (v : ℤ) (k : Held) (meets : Meets env es) (later : top < next)
+    (size n w i : ℕ) (e : Expression) (v : ℤ) (k : Held) (meets : Meets env es) (low : top ≤ next)
+    (later : top < g.words → top < next)
     (array : IsInWords g es name type size n w) (sub : IsSubscript g top es env next size e i)
     (carries : Carries g top es env k.memory) (value : k.stack.a ≡ v) (fits : FitsSigned w32 v) where
   -- the word of the element is one of the frame
   inside_frame : IsInFrame (element_word type w i)
   inside_frame =
-      let below = element_below g top es env name type size n w i k.memory array sub.inside carries in
-      omega (arith, below, carries.room, carries.frame.few)
+      let within = element_within g top es env name type size n w i k.memory array sub.inside carries in
+      omega (arith, within, carries.frame.few)
 
   -- memory still carries the environment while the number waits
   waiting_carries : top < g.words → Carries g top es env (with_frame_word top k.stack.a k.memory)
@@ -213,7 +213,7 @@ module _ (g : Ground) (top next : ℕ) (es : List Entry) (env : Environment) (na
       (sym (word_is w i inside)) (moved_there g w i top v k carries.frame within value fits inside)
   known_by value_type.Byte inside within =
       stored_below g value_type.Byte w i top v k carries.frame within value fits (word_address w + i) next (pos 0)
-      false (known_address value_type.Byte w i) later
+      false (known_address value_type.Byte w i) (later within)
       (known_addressed g value_type.Byte w i next false (waiting top k) carries.frame.workspace inside)
       (elements_have_places value_type.Byte w i inside)
 
@@ -259,7 +259,7 @@ module _ (g : Ground) (top next : ℕ) (es : List Entry) (env : Environment) (na
       let found = selected_by type k inside_frame carries
       (first_within g (subscript_for type) (subscript_code type w)
       (first_within g code (stores_at type (offset_for type) ∷ []) all)) in
-      stored_over g type w i found.a top next v (offset_for type) code k (omega (arith, later)) value
+      stored_over g type w i found.a top next v (offset_for type) code k low value
       (subst (λ (s : Bool). Addressed g code next found.a s k) is found.addressed) found.reaches
   other_by false is all =
       let code : List Piece = subscript_for type ++ subscript_code type w in
@@ -268,7 +268,7 @@ module _ (g : Ground) (top next : ℕ) (es : List Entry) (env : Environment) (na
       (first_within g (subscript_for type) (subscript_code type w)
       (first_within g code (stores_below type (offset_for type) top) all.1)) in
       stored_below g type w i top v k carries.frame within value fits found.a next (offset_for type) (is_small es e)
-      code later found.addressed found.reaches
+      code (later within) found.addressed found.reaches
 
   -- so the code of the store does
   known_stored : AreWithin g (store_code (KnownElement type w i) top)
@@ -318,9 +318,6 @@ module _ (c : LaidCode) (g : Ground) (top at to : ℕ) (es : List Entry) (env : 
             (left.carries store.under
             (outer_words_stay g top top g.words es env h.memory store.under begins.meets (omega arith) (omega arith)
             changes begins.carries));
-        bytes = subst (λ (m : Memory). HasBytes g.footing.depth top m) (sym store.is)
-            (element_stays type g.footing.depth top w i v store.under
-            (free_stays g.footing.depth top g.words h.memory store.under changes begins.bytes));
       })))
 
   -- the number goes to a scalar
@@ -330,8 +327,8 @@ module _ (c : LaidCode) (g : Ground) (top at to : ℕ) (es : List Entry) (env : 
   scalar_ends name type n w scalar first lie =
       let k = first.after in
       let kept = kept_after first in
-      let below = scalar_below g top es env name type n w k.memory scalar kept in
-      let inside : IsInFrame w = omega (arith, below, kept.room, kept.frame.few) in
+      let within = scalar_within g top es env name type n w k.memory scalar kept in
+      let inside : IsInFrame w = omega (arith, within, kept.frame.few) in
       let left = scalar_put g top es env name type n w v begins.meets scalar pushed.word in
       subst (λ (t : Doing). Behaves c (EndsAt g top es to) (point at h) t)
       (sym (assigned ports (whole name) value env left.after v pushed.is left.is))
@@ -341,19 +338,19 @@ module _ (c : LaidCode) (g : Ground) (top at to : ℕ) (es : List Entry) (env : 
         at = refl;
         carries = subst (λ (x : ℤ). Carries g top es left.after (with_frame_word w x k.memory)) (sym first.a)
             (left.carries k.memory kept);
-        bytes = word_stays g.footing.depth top (word_place w) k.stack.a k.memory
-            (free_stays g.footing.depth top g.words h.memory k.memory first.changes begins.bytes);
       })))
 
   -- where further words are free while the number waits
   abbrev next : ℕ
   next = word_after top 1
 
-  next_later : top < next
-  next_later =
-      let room = begins.carries.room in
+  next_low : top ≤ next
+  next_low = after_further top 1 begins.carries.counted
+
+  next_later : top < g.words → top < next
+  next_later within =
       let few = begins.carries.frame.few in
-      let same = next_word top (omega (arith, room, few)) in
+      let same = next_word top (omega (arith, within, few)) in
       omega (arith, same)
 
   abbrev target_for : List ℕ → Expression → Target
@@ -369,7 +366,7 @@ module _ (c : LaidCode) (g : Ground) (top at to : ℕ) (es : List Entry) (env : 
   element_by name e type size n w i array sub typed all lie (inl known) =
       let first = pushed.pushes (first_within g code (store_code (target_for name e) top) all) h begins.carries in
       element_ends (element name e) type w i (store_code (KnownElement type w i) top) first
-      (known_stored g top next es env name type size n w i e v first.after begins.meets next_later array sub
+      (known_stored g top next es env name type size n w i e v first.after begins.meets next_low next_later array sub
       (kept_after first) first.a pushed.word
       (subst (λ (x : Target). AreWithin g (store_code x top)) known
       (rest_within g code (store_code (target_for name e) top) all)))
@@ -379,7 +376,7 @@ module _ (c : LaidCode) (g : Ground) (top at to : ℕ) (es : List Entry) (env : 
       let first = pushed.pushes (first_within g code (store_code (target_for name e) top) all) h begins.carries in
       element_ends (element name e) type w i
       (store_code (OtherElement type w (subscript_of g.homes es next e)) top) first
-      (other_stored g top next es env name type size n w i e v first.after begins.meets next_later array sub
+      (other_stored g top next es env name type size n w i e v first.after begins.meets next_low next_later array sub
       (kept_after first) first.a pushed.word
       (subst (λ (x : Target). AreWithin g (store_code x top)) other
       (rest_within g code (store_code (target_for name e) top) all)))

@@ -5,7 +5,6 @@ use Rattle.std.proofs.Common.{arith}
 use Rattle.std.specs.Prelude.{◌+ℤ◌, int_le, int_lt, is_some, IfSome, if◌then◌else◌}
 use Rattle.std.proofs.lemmas.Bool.{and_parts}
 use Rattle.std.proofs.lemmas.Int.{ints}
-use Rattle.module_format.specs.declared.limits.TheConstants.{MAX_DATA_WORDS}
 use Rattle.word_arithmetic.specs.Range.{Ends, InRange}
 use Rattle.occam_parser.specs.declared.tree.ValueType.{ValueType}
 use Rattle.occam_parser.specs.declared.tree.ValueType.TheVariants as value_type
@@ -44,13 +43,13 @@ use Rattle.meant_lines.specs.ExpressionLaws as lines
 use Rattle.meant_lines.specs.ExpressionLaws.{IsChecked}
 use Rattle.meant_lines.specs.Pushing.{IsCounted}
 use Rattle.meant_lines.proofs.Expressions.{numbers_are_pushed, subscripts_are_pushed}
+use Rattle.meant_lines.proofs.Housing.{after_counted, after_further}
 use Rattle.meant_actions.specs.Acting.{IsSubscript, IsVariable, whole_scalar, array_element}
 use Rattle.meant_actions.specs.Assigning.{IsAssignment}
 use Rattle.meant_actions.specs.Checked.{HasVariables, CheckedActionsAreReady}
 use Rattle.meant_actions.specs.Exchanging.{IsPort}
 use Rattle.meant_actions.specs.Receiving.{IsInput}
 use Rattle.meant_actions.specs.Sending.{IsElementOf, IsOutput, HasSource}
-use Rattle.meant_actions.proofs.Acting.{next_word}
 use Rattle.meant_actions.proofs.Sending.{same_types}
 
 -- ---- numbers that are there
@@ -278,20 +277,19 @@ module _ (g : Ground) (top : ℕ) (es : List Entry) (env : Environment) (ports :
 
   -- ---- assignments
 
-  assignment_ready : (target : Place) (value : Expression) (type : ExprType) (range : Ends) → top ≤ MAX_DATA_WORDS
+  assignment_ready : (target : Place) (value : Expression) (type : ExprType) (range : Ends) → IsCounted top
       → IsTarget es target type → IsFit wanted.Anything es value type range → place_has_words target ≡ true
       → has_words value ≡ true → IsAssignment g top es env target value
   assignment_ready target value type range few is_target fit target_words words =
-      let next = next_word top few in
       let found = found_by (word_after top 1) target.name target.subscript type (meaning_in target.name es)
-      (omega (arith, next)) (omega (arith, next, few)) refl is_target target_words in
+      (after_further top 1 few) (after_counted top 1) refl is_target target_words in
       let v = some_and (InRange range) (number_of env value)
       (lies found.0 type range (number_of env value) (truth_of env value) found.1
       (fit_has wanted.Anything es env value type range names.holds.meets fit)) in
       let sound : IsChecked es value type =
       record { range = range; type_is = fit.type_is; range_is = fit.range_is; literals = words } in
       let pushed = numbers_are_pushed g top top es env value type v.0
-      (free_from top (omega arith) (omega (arith, few))) sound v.1 in
+      (free_from top (omega arith) few) sound v.1 in
       record {
         type = found.0;
         number = v.0;
@@ -310,12 +308,12 @@ module _ (g : Ground) (top : ℕ) (es : List Entry) (env : Environment) (ports :
       ap type_of_values (sym is_port.carries)
       ∙ channel_carries (meaning_in channel.name es) (is_subscripted channel.subscript) type is_channel.type_is
 
-  input_ready : (channel target : Place) (type : ExprType) (port : Port) → top ≤ MAX_DATA_WORDS
+  input_ready : (channel target : Place) (type : ExprType) (port : Port) → IsCounted top
       → IsPort g es env ports direction.Input channel port → IsChannel es channel type → IsTarget es target type
       → place_has_words target ≡ true → IsInput g top es env ports channel target
   input_ready channel target type port few is_port is_channel is_target words =
       let found = found_by top target.name target.subscript type (meaning_in target.name es) (omega arith)
-      (omega (arith, few)) refl is_target words in
+      few refl is_target words in
       let same : found.0 ≡ port.carries =
       same_types found.0 port.carries
       (ap Ok (found.1 ∙ sym (port_type direction.Input channel type port is_port is_channel))) in
@@ -327,7 +325,7 @@ module _ (g : Ground) (top : ℕ) (es : List Entry) (env : Environment) (ports :
 
   -- ---- outputs
 
-  element_source : (name : List ℕ) (e : Expression) (type : ExprType) (range : Ends) → top ≤ MAX_DATA_WORDS
+  element_source : (name : List ℕ) (e : Expression) (type : ExprType) (range : Ends) → IsCounted top
       → IsFit wanted.Anything es (Alone (Element name e)) type range → has_words e ≡ true
       → IsElementOf g top es env name e
   element_source name e type range few fit words =
@@ -343,7 +341,7 @@ module _ (g : Ground) (top : ℕ) (es : List Entry) (env : Environment) (ports :
           let inside = inside_array typed.kind typed.of size typed.all range (bound_of es e)
           (ap (λ (m : Option Meaning). range_found (and_then (bound_of es e) (element_bound m))) (sym means)
           ∙ fit.range_is) in
-          let i = subscript_ready top e inside.0 size (omega arith) (omega (arith, few))
+          let i = subscript_ready top e inside.0 size (omega arith) few
           (record { type_is = typed.is_int; range_is = inside.1; suits = refl }) inside.2 words in
           record {
             kind = typed.kind;
@@ -355,13 +353,13 @@ module _ (g : Ground) (top : ℕ) (es : List Entry) (env : Environment) (ports :
             subscript = i.1;
           }
 
-  source_ready : (value : Expression) (type : ExprType) (range : Ends) → top ≤ MAX_DATA_WORDS
+  source_ready : (value : Expression) (type : ExprType) (range : Ends) → IsCounted top
       → IsFit wanted.Anything es value type range → has_words value ≡ true → HasSource g top es env value
   source_ready (Alone (Element name e)) type range few fit words = element_source name e type range few fit words
   source_ready value type range few fit words = tt
 
   output_ready : (channel : Place) (value : Expression) (type : ExprType) (range : Ends) (port : Port)
-      → top ≤ MAX_DATA_WORDS → IsPort g es env ports direction.Output channel port → IsChannel es channel type
+      → IsCounted top → IsPort g es env ports direction.Output channel port → IsChannel es channel type
       → IsFit wanted.Anything es value type range → has_words value ≡ true
       → IsOutput g top es env ports channel value
   output_ready channel value type range port few is_port is_channel fit words =
@@ -372,7 +370,7 @@ module _ (g : Ground) (top : ℕ) (es : List Entry) (env : Environment) (ports :
       let sound : IsChecked es value type =
       record { range = range; type_is = fit.type_is; range_is = fit.range_is; literals = words } in
       let pushed = numbers_are_pushed g top top es env value type v.0
-      (free_from top (omega arith) (omega (arith, few))) sound v.1 in
+      (free_from top (omega arith) few) sound v.1 in
       record {
         port = port;
         is_port = is_port;

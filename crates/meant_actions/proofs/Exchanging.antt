@@ -1,6 +1,6 @@
 -- What stays while a process waits, and the address of a link.
 use Rattle.std.proofs.Common.{◌≡◌, ℕ, ◌+◌, ◌<◌, ◌≤◌, inr, ℤ, pos, Bool, true, false, nat_eq}
-use Rattle.std.proofs.Common.{List, [], ◌∷◌, length, Option, Some, None, refl, ◌∙◌, arith}
+use Rattle.std.proofs.Common.{List, [], ◌∷◌, length, Option, Some, None, refl, sym, ◌∙◌, arith}
 use Rattle.std.specs.Prelude.{slice_get, if◌then◌else◌}
 use Rattle.std.proofs.lemmas.Bool.{eqb-true}
 use Rattle.std.proofs.lemmas.Int.{ints}
@@ -24,7 +24,7 @@ use Rattle.placed_code.specs.StraightPieces.{Footing, LeadOn, with_pushed, word_
 use Rattle.placed_code.proofs.StraightPieces.{lead_both}
 use Rattle.placed_code.proofs.TablesInMemory.{tables_stay}
 use Rattle.placed_code.specs.Behaves.{IsScheduling}
-use Rattle.meant_lines.specs.Carrying.{Ground, HoldsArray, HoldsTable, IsScalarKept, IsArrayKept}
+use Rattle.meant_lines.specs.Carrying.{Ground, HoldsWord, HoldsArray, HoldsTable, IsScalarKept, IsArrayKept}
 use Rattle.meant_lines.specs.Carrying.{IsKeptThere, AreKept, Carries}
 use Rattle.meant_lines.proofs.Words.{addresses_read_back}
 use Rattle.meant_lines.proofs.Instructions.{least_word_is_pushed, addresses_move_on}
@@ -39,18 +39,24 @@ module _ (g : Ground) (old new : Memory)
       word_at_same new old place (same place low) (same (place + 1) (omega (arith, low)))
       (same (place + 2) (omega (arith, low))) (same (place + 3) (omega (arith, low)))
 
+  number_same : (w : ℕ) (v : ℤ) → HoldsWord old w v → HoldsWord new w v
+  number_same w v is = record {
+    is = words_same (word_place w) (omega arith) ∙ is.is;
+    bytes = λ i byte less there. is.bytes i byte less (sym (same (word_place w + i) (omega arith)) ∙ there);
+  }
+
   array_same : (type : ValueType) (w : ℕ) (vs : List ℤ) → HoldsArray type old w vs → HoldsArray type new w vs
-  array_same value_type.Int w vs holds = λ i v is. words_same (word_place (w + i)) (omega arith) ∙ holds i v is
+  array_same value_type.Int w vs holds = λ i v is. number_same (w + i) v (holds i v is)
   array_same value_type.Byte w vs holds = λ i v is.
       let there = holds i v is in
-      (there.0, there.1, same (word_place w + i) (omega arith) ∙ there.2)
+      (there.0, there.1, same (word_place w + i) (omega arith) ∙ there.2, there.3)
 
   table_same : (values : List ℤ) → HoldsTable g old values → HoldsTable g new values
   table_same values table =
       tables_stay g.footing g.words old new values (λ place far. same place (omega (arith, far))) table
 
   scalar_same : (h : Home) (held : Held) → IsScalarKept g old h held → IsScalarKept g new h held
-  scalar_same (Word w) (One v) is = words_same (word_place w) (omega arith) ∙ is
+  scalar_same (Word w) (One v) is = number_same w v is
   scalar_same (Block w head) (One v) is = (
     words_same (word_place w) (omega arith) ∙ is.0,
     words_same (word_place (w + 1)) (omega arith) ∙ is.1,
@@ -104,6 +110,7 @@ module _ (g : Ground) (old new : Memory)
     kept = all_same es env carries.kept;
     rise = carries.rise;
     room = carries.room;
+    counted = carries.counted;
     tables = λ values reads fit. table_same values (carries.tables values reads fit);
   }
 

@@ -1,5 +1,4 @@
 pub mod Acting
-pub mod Bytes
 pub mod Actions
 pub mod Checked
 pub mod Addressing

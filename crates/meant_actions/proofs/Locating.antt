@@ -1,7 +1,7 @@
--- Where variables are in memory: beside what scheduling takes, and before the words that are free.
+-- Where variables are in memory: beside what scheduling takes, and in the frame.
 use Rattle.std.proofs.Common.{◌≡◌, ℕ, ◌+◌, ◌*◌, ◌<◌, ◌≤◌, ◌⊎◌, inl, inr, false, List}
 use Rattle.std.proofs.Common.{Some, arith}
-use Rattle.machine_state.specs.Memory.{Memory, place_of, byte_at}
+use Rattle.machine_state.specs.Memory.{Memory, place_of}
 use Rattle.occam_parser.specs.declared.tree.ValueType.{ValueType}
 use Rattle.occam_parser.specs.declared.tree.ValueType.TheVariants as value_type
 use Rattle.occam_parser.specs.Expressions.{Expression}
@@ -13,57 +13,40 @@ use Rattle.code_pieces.specs.Pieces.{Piece}
 use Rattle.line_pieces.specs.Homes.{words_for}
 use Rattle.line_pieces.specs.Expressions.{expression_code, is_leaf, is_small, subscript_code, subscript_of}
 use Rattle.line_pieces.specs.Actions.{OwnWord, KnownElement, OtherElement, target_address}
-use Rattle.placed_code.specs.Behaves.{IsScheduling}
 use Rattle.placed_code.specs.StraightPieces.{Held, word_address, word_place}
 use Rattle.meant_lines.specs.Words.{IsInFrame}
 use Rattle.meant_lines.specs.Carrying.{Ground, Carries}
 use Rattle.meant_lines.proofs.Words.{words_have_places}
 use Rattle.meant_actions.specs.Acting.{AreWithin, IsScalar, IsInWords, IsSubscript}
-use Rattle.meant_actions.specs.Bytes.{HasBytes}
 use Rattle.meant_actions.specs.Exchanging.{IsUndisturbed}
 use Rattle.meant_actions.proofs.Acting.{first_within}
 use Rattle.meant_actions.proofs.Addressing.{Addressed, element_address, elements_have_places, word_addressed}
 use Rattle.meant_actions.proofs.Addressing.{known_addressed, element_selected}
-use Rattle.meant_actions.proofs.Variables.{element_place, element_word, scalar_below, array_below, element_below}
+use Rattle.meant_actions.proofs.Variables.{element_place, element_word, scalar_within, array_within}
+use Rattle.meant_actions.proofs.Variables.{element_within}
 
 -- ---- room
 
--- These bytes are beside the words that scheduling takes, and before this word.
-pub record IsBesideScheduling (depth top place count : ℕ) : Type 0 where
+-- These bytes are beside the words that scheduling takes, and in a frame of this number of words.
+pub record IsBesideScheduling (depth words place count : ℕ) : Type 0 where
   pub beside : (place + count ≤ 4 * depth) ⊎ (word_place depth ≤ place)
-  pub before : place + count ≤ word_place top
+  pub before : place + count ≤ word_place words
 
 -- some of the words of a name
-name_beside : (depth top w words place count : ℕ) → (w + words + BASE ≤ depth) ⊎ (depth ≤ w) → w + words ≤ top
-    → word_place w ≤ place → place + count ≤ word_place (w + words) → IsBesideScheduling depth top place count
-name_beside depth top w words place count apart ends low high = record {
+name_beside : (depth words w size place count : ℕ) → (w + size + BASE ≤ depth) ⊎ (depth ≤ w) → w + size ≤ words
+    → word_place w ≤ place → place + count ≤ word_place (w + size) → IsBesideScheduling depth words place count
+name_beside depth words w size place count apart ends low high = record {
   beside = by apart;
   before = omega (arith, ends, high);
 }
   where
-    by : (w + words + BASE ≤ depth) ⊎ (depth ≤ w) → (place + count ≤ 4 * depth) ⊎ (word_place depth ≤ place)
+    by : (w + size + BASE ≤ depth) ⊎ (depth ≤ w) → (place + count ≤ 4 * depth) ⊎ (word_place depth ≤ place)
     by (inl below) = inl (omega (arith, below, high))
     by (inr above) = inr (omega (arith, above, low))
 
--- what is beside them is none of them
-not_scheduling : (depth top place count j : ℕ) → IsBesideScheduling depth top place count → j < count
-    → IsScheduling depth (place + j) → ⊥
-not_scheduling depth top place count j room less is = by room.beside
-  where
-    by : (place + count ≤ 4 * depth) ⊎ (word_place depth ≤ place) → ⊥
-    by (inl below) = let low = is.0 in absurd (omega (arith, below, low, less))
-    by (inr above) = let high = is.1 in absurd (omega (arith, above, high))
-
--- so it is bytes
-pub bytes_there : (depth top place count : ℕ) (m : Memory) → IsBesideScheduling depth top place count
-    → HasBytes depth top m → (j byte : ℕ) → j < count → byte_at m (place + j) ≡ Some byte → byte < 256
-bytes_there depth top place count m room has j byte less is =
-    let ends = room.before in
-    has (place + j) byte (omega (arith, less, ends)) (not_scheduling depth top place count j room less) is
-
-pub fewer_beside : (depth top place count fewer : ℕ) → fewer ≤ count → IsBesideScheduling depth top place count
-    → IsBesideScheduling depth top place fewer
-fewer_beside depth top place count fewer less room = record {
+pub fewer_beside : (depth words place count fewer : ℕ) → fewer ≤ count → IsBesideScheduling depth words place count
+    → IsBesideScheduling depth words place fewer
+fewer_beside depth words place count fewer less room = record {
   beside = by room.beside;
   before = let ends = room.before in omega (arith, less, ends);
 }
@@ -76,11 +59,12 @@ fewer_beside depth top place count fewer less room = record {
 module _ (g : Ground) (top : ℕ) (es : List Entry) (env : Environment) (name : List ℕ) (type : ValueType)
     (m : Memory) (undisturbed : IsUndisturbed g top es) (carries : Carries g top es env m) where
   -- the word of a scalar
-  pub scalar_beside : (n w : ℕ) → IsScalar g es name type n w → IsBesideScheduling g.footing.depth top (word_place w) 4
+  pub scalar_beside : (n w : ℕ) → IsScalar g es name type n w
+      → IsBesideScheduling g.footing.depth g.words (word_place w) 4
   scalar_beside n w scalar =
-      name_beside g.footing.depth top w 1 (word_place w) 4
+      name_beside g.footing.depth g.words w 1 (word_place w) 4
       (undisturbed.names name (Scalar scalar.kind type scalar.range) w scalar.means scalar.at)
-      (scalar_below g top es env name type n w m scalar carries) (omega arith) (omega arith)
+      (scalar_within g top es env name type n w m scalar carries) (omega arith) (omega arith)
 
   within_words : (type : ValueType) (w i size : ℕ) → i < size
       → (word_place w ≤ element_place type w i)
@@ -90,12 +74,12 @@ module _ (g : Ground) (top : ℕ) (es : List Entry) (env : Environment) (name : 
 
   -- an element of an array
   pub element_beside : (size n w i : ℕ) → IsInWords g es name type size n w → i < size
-      → IsBesideScheduling g.footing.depth top (element_place type w i) (message_length type)
+      → IsBesideScheduling g.footing.depth g.words (element_place type w i) (message_length type)
   element_beside size n w i array less =
       let within = within_words type w i size less in
-      name_beside g.footing.depth top w (words_for type size) (element_place type w i) (message_length type)
+      name_beside g.footing.depth g.words w (words_for type size) (element_place type w i) (message_length type)
       (undisturbed.names name (Array array.kind type (Some size) array.range) w array.means array.at)
-      (array_below g top es env name type size n w m array carries) within.0 within.1
+      (array_within g top es env name type size n w m array carries) within.0 within.1
 
 -- ---- addresses of variables
 
@@ -104,15 +88,15 @@ pub record IsLocated (g : Ground) (top : ℕ) (ps : List Piece) (place count : �
   pub a : ℕ
   pub addressed : Addressed g ps top a false h
   pub is : place_of a ≡ place
-  pub room : IsBesideScheduling g.footing.depth top place count
+  pub room : IsBesideScheduling g.footing.depth g.words place count
 
 module _ (g : Ground) (top : ℕ) (es : List Entry) (env : Environment) (name : List ℕ) (type : ValueType) (h : Held)
     (undisturbed : IsUndisturbed g top es) (carries : Carries g top es env h.memory) where
   pub scalar_located : (n w : ℕ) → IsScalar g es name type n w
       → IsLocated g top (target_address (OwnWord type w)) (word_place w) 4 h
   scalar_located n w scalar =
-      let below = scalar_below g top es env name type n w h.memory scalar carries in
-      let inside : IsInFrame w = omega (arith, below, carries.room, carries.frame.few) in
+      let within = scalar_within g top es env name type n w h.memory scalar carries in
+      let inside : IsInFrame w = omega (arith, within, carries.frame.few) in
       record {
         a = word_address w;
         addressed = word_addressed g w top false h carries.frame.workspace inside;
@@ -125,8 +109,8 @@ module _ (g : Ground) (top : ℕ) (es : List Entry) (env : Environment) (name : 
     (array : IsInWords g es name type size n w) (sub : IsSubscript g top es env top size e i) where
   element_inside : IsInFrame (element_word type w i)
   element_inside =
-      let below = element_below g top es env name type size n w i h.memory array sub.inside carries in
-      omega (arith, below, carries.room, carries.frame.few)
+      let within = element_within g top es env name type size n w i h.memory array sub.inside carries in
+      omega (arith, within, carries.frame.few)
 
   pub known_located : IsLocated g top (target_address (KnownElement type w i)) (element_place type w i)
       (message_length type) h

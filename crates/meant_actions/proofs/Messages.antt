@@ -1,80 +1,18 @@
--- The bytes of a word that was written are those of its message, and those of a message make a word.
-use Rattle.std.proofs.Common.{◌≡◌, ℕ, zero, suc, ◌+◌, ◌*◌, ◌-◌, ◌/◌, ◌%◌, ◌<◌, ◌≤◌, ◌⊎◌, inl, inr, ℤ, List, [], ◌∷◌}
-use Rattle.std.proofs.Common.{length, Some, refl, sym, ap, subst, ◌∙◌, arith}
+-- The bytes of a word are those of its message, and those of a message make a word.
+use Rattle.std.proofs.Common.{◌≡◌, ℕ, zero, suc, ◌+◌, ◌*◌, ◌-◌, ◌/◌, ◌%◌, ◌<◌, ◌≤◌, ◌⊎◌, inl, inr, ℤ, pos}
+use Rattle.std.proofs.Common.{List, [], ◌∷◌, length, Option, Some, None, refl, sym, ap, subst, ◌∙◌, arith}
 use Rattle.std.proofs.lemmas.Bool.{cases_lt}
-use Rattle.std.proofs.lemmas.Int.{of_z-to_z}
+use Rattle.std.proofs.lemmas.Int.{ints, of_z-to_z}
 use Rattle.std.specs.Int.{w32, cast_signed, cast_unsigned}
 use Rattle.module_format.specs.Order.{IsBytes}
-use Rattle.machine_state.specs.Memory.{Memory, byte_at, with_byte, with_word, byte_worth}
-use Rattle.machine_state.proofs.Reading.{byte_at-with_byte, byte_at-with_byte_other, length-with_byte}
+use Rattle.machine_state.specs.Memory.{Memory, byte_at, word_at, word_from_bytes, with_word}
 use Rattle.machine_state.proofs.Reading.{byte_at-with_word_other, length-with_word}
 use Rattle.occam_parser.specs.declared.tree.ValueType.{ValueType}
 use Rattle.occam_parser.specs.declared.tree.ValueType.TheVariants as value_type
 use Rattle.program_meaning.specs.Links.{message_of, received}
 use Rattle.placed_code.specs.Behaves.{Has, IsScheduling}
+use Rattle.meant_lines.proofs.WrittenBytes.{message_there}
 use Rattle.meant_actions.specs.Exchanging.{OnlySchedulingChanges}
-
-module _ (m : Memory) (place : ℕ) (v : ℤ) (inside : place + 4 ≤ length m) where
-  abbrev one : Memory
-  one = with_byte m place (Some (byte_worth 1 v))
-
-  abbrev two : Memory
-  two = with_byte one (place + 1) (Some (byte_worth 256 v))
-
-  abbrev three : Memory
-  three = with_byte two (place + 2) (Some (byte_worth 65536 v))
-
-  size_one : length one ≡ length m
-  size_one = length-with_byte m place (Some (byte_worth 1 v))
-
-  size_two : length two ≡ length m
-  size_two = length-with_byte one (place + 1) (Some (byte_worth 256 v)) ∙ size_one
-
-  size_three : length three ≡ length m
-  size_three = length-with_byte two (place + 2) (Some (byte_worth 65536 v)) ∙ size_two
-
-  pub first_byte : byte_at (with_word m place (Some v)) (place + 0) ≡ Some (byte_worth 1 v)
-  unfolding with_word
-  first_byte =
-      let at : place + 0 ≡ place = omega arith in
-      ap (byte_at (with_byte three (place + 3) (Some (byte_worth 16777216 v)))) at
-      ∙ byte_at-with_byte_other three (place + 3) place (Some (byte_worth 16777216 v)) (omega arith)
-      ∙ byte_at-with_byte_other two (place + 2) place (Some (byte_worth 65536 v)) (omega arith)
-      ∙ byte_at-with_byte_other one (place + 1) place (Some (byte_worth 256 v)) (omega arith)
-      ∙ byte_at-with_byte m place (Some (byte_worth 1 v)) (omega (arith, inside))
-
-  pub second_byte : byte_at (with_word m place (Some v)) (place + 1) ≡ Some (byte_worth 256 v)
-  unfolding with_word
-  second_byte =
-      byte_at-with_byte_other three (place + 3) (place + 1) (Some (byte_worth 16777216 v)) (omega arith)
-      ∙ byte_at-with_byte_other two (place + 2) (place + 1) (Some (byte_worth 65536 v)) (omega arith)
-      ∙ byte_at-with_byte one (place + 1) (Some (byte_worth 256 v)) (omega (arith, inside, size_one))
-
-  pub third_byte : byte_at (with_word m place (Some v)) (place + 2) ≡ Some (byte_worth 65536 v)
-  unfolding with_word
-  third_byte =
-      byte_at-with_byte_other three (place + 3) (place + 2) (Some (byte_worth 16777216 v)) (omega arith)
-      ∙ byte_at-with_byte two (place + 2) (Some (byte_worth 65536 v)) (omega (arith, inside, size_two))
-
-  pub fourth_byte : byte_at (with_word m place (Some v)) (place + 3) ≡ Some (byte_worth 16777216 v)
-  unfolding with_word
-  fourth_byte =
-      byte_at-with_byte three (place + 3) (Some (byte_worth 16777216 v)) (omega (arith, inside, size_three))
-
-  lowest : Some (byte_worth 1 v) ≡ Some (cast_unsigned w32 v % 256)
-  lowest =
-      let same : cast_unsigned w32 v / 1 ≡ cast_unsigned w32 v = omega arith in
-      ap (λ (n : ℕ). Some (n % 256)) same
-
-  -- so the message of a number is where the number was written
-  pub message_there : (type : ValueType) → Has (with_word m place (Some v)) place (message_of type v)
-  message_there value_type.Int zero byte is = first_byte ∙ lowest ∙ is
-  message_there value_type.Int (suc zero) byte is = second_byte ∙ is
-  message_there value_type.Int (suc (suc zero)) byte is = third_byte ∙ is
-  message_there value_type.Int (suc (suc (suc zero))) byte is = fourth_byte ∙ is
-  message_there value_type.Int (suc (suc (suc (suc i)))) byte is = absurd (cc)
-  message_there value_type.Byte zero byte is = first_byte ∙ lowest ∙ is
-  message_there value_type.Byte (suc i) byte is = absurd (cc)
 
 -- ---- what comes in
 
@@ -85,7 +23,7 @@ module _ (p q r s : ℕ) (a : p < 256) (b : q < 256) (c : r < 256) (d : s < 256)
   joined_is : joined ≡ p + 256 * q + 65536 * r + 16777216 * s
   joined_is = omega (arith, a, b, c, d)
 
-  pub digits : (n : ℕ) → n ≡ p + 256 * q + 65536 * r + 16777216 * s
+  digits : (n : ℕ) → n ≡ p + 256 * q + 65536 * r + 16777216 * s
       → n % 256 ∷ n / 256 % 256 ∷ n / 65536 % 256 ∷ n / 16777216 % 256 ∷ [] ≡ p ∷ q ∷ r ∷ s ∷ []
   digits n is =
       let first : n % 256 ≡ p = omega (arith, is, a) in
@@ -140,3 +78,64 @@ word_over depth place v old new inside long has same = record {
         subst (λ (x : ℕ). byte_at new x ≡ byte_at (with_word old place (Some v)) x) at
         (agree new (with_word old place (Some v)) place (other - place) v (omega (arith, low, within)) has
         (message_there old place v inside value_type.Int))
+
+-- ---- messages that are there
+
+four_there : (m : Memory) (place p q r s : ℕ) → byte_at m place ≡ Some p → byte_at m (place + 1) ≡ Some q
+    → byte_at m (place + 2) ≡ Some r → byte_at m (place + 3) ≡ Some s → Has m place (p ∷ q ∷ r ∷ s ∷ [])
+four_there m place p q r s first second third fourth zero byte is =
+    let at : place + 0 ≡ place = omega arith in
+    ap (byte_at m) at ∙ first ∙ is
+four_there m place p q r s first second third fourth (suc zero) byte is = second ∙ is
+four_there m place p q r s first second third fourth (suc (suc zero)) byte is = third ∙ is
+four_there m place p q r s first second third fourth (suc (suc (suc zero))) byte is = fourth ∙ is
+four_there m place p q r s first second third fourth (suc (suc (suc (suc i)))) byte is = absurd (cc)
+
+lowest_there : (m : Memory) (place : ℕ) (v : ℤ) → Has m place (message_of value_type.Int v)
+    → Has m place (message_of value_type.Byte v)
+lowest_there m place v has zero byte is = has zero byte is
+lowest_there m place v has (suc i) byte is = absurd (cc)
+
+unsigned_is : (v : ℤ) (n : ℕ) → n < 4294967296 → Some (cast_signed w32 n) ≡ Some v → cast_unsigned w32 v ≡ n
+unsigned_is v n few is =
+    let same : v ≡ cast_signed w32 n = cc (is) in
+    ap (cast_unsigned w32) same ∙ of_z-to_z w32 n (omega (arith, few))
+
+module _ (m : Memory) (place : ℕ) (v : ℤ)
+    (small : (i byte : ℕ) → i < 4 → byte_at m (place + i) ≡ Some byte → byte < 256) where
+  word_by : (p q r s : Option ℕ) → byte_at m place ≡ p → byte_at m (place + 1) ≡ q → byte_at m (place + 2) ≡ r
+      → byte_at m (place + 3) ≡ s → word_from_bytes p q r s ≡ Some v → Has m place (message_of value_type.Int v)
+  word_by (Some p) (Some q) (Some r) (Some s) first second third fourth is =
+      let at : place + 0 ≡ place = omega arith in
+      let a : p < 256 = small 0 p (omega arith) (ap (byte_at m) at ∙ first) in
+      let b : q < 256 = small 1 q (omega arith) second in
+      let c : r < 256 = small 2 r (omega arith) third in
+      let d : s < 256 = small 3 s (omega arith) fourth in
+      let number : cast_unsigned w32 v ≡ p + 256 * q + 65536 * r + 16777216 * s =
+      unsigned_is v (p + 256 * q + 65536 * r + 16777216 * s) (omega (arith, a, b, c, d)) is in
+      subst (λ (bytes : List ℕ). Has m place bytes) (sym (digits p q r s a b c d (cast_unsigned w32 v) number))
+      (four_there m place p q r s first second third fourth)
+  word_by None q r s first second third fourth is = absurd (cc)
+  word_by (Some p) None r s first second third fourth is = absurd (cc)
+  word_by (Some p) (Some q) None s first second third fourth is = absurd (cc)
+  word_by (Some p) (Some q) (Some r) None first second third fourth is = absurd (cc)
+
+  word_has : word_at m place ≡ Some v → Has m place (message_of value_type.Int v)
+  unfolding word_at
+  word_has is =
+      word_by (byte_at m place) (byte_at m (place + 1)) (byte_at m (place + 2)) (byte_at m (place + 3)) refl refl refl
+      refl is
+
+  -- so the message of a word is there
+  pub message_in_word : (type : ValueType) → word_at m place ≡ Some v → Has m place (message_of type v)
+  message_in_word value_type.Int is = word_has is
+  message_in_word value_type.Byte is = lowest_there m place v (word_has is)
+
+-- and that of a byte
+pub message_in_byte : (m : Memory) (place b : ℕ) → b < 256 → byte_at m place ≡ Some b
+    → Has m place (message_of value_type.Byte (pos b))
+message_in_byte m place b small there zero byte is =
+    let at : place + 0 ≡ place = omega arith in
+    let lowest : cast_unsigned w32 (pos b) % 256 ≡ b = omega (arith, ints, small) in
+    ap (byte_at m) at ∙ there ∙ ap Some (sym lowest) ∙ is
+message_in_byte m place b small there (suc i) byte is = absurd (cc)

@@ -44,19 +44,18 @@ use Rattle.meant_lines.proofs.Words.{words_have_places, addresses_read_back}
 use Rattle.meant_lines.proofs.Carrying.{outer_words_stay}
 use Rattle.meant_lines.proofs.Instructions.{constants_are_pushed, addresses_are_pushed, words_are_stored}
 use Rattle.meant_lines.proofs.Instructions.{bytes_are_loaded}
+use Rattle.meant_lines.proofs.WrittenBytes.{message_there}
 use Rattle.meant_actions.specs.Acting.{Begins, EndsAt, AreWithin, IsScalar, IsInWords, IsSubscript, IsVariable}
 use Rattle.meant_actions.specs.Acting.{whole_scalar, array_element}
-use Rattle.meant_actions.specs.Bytes.{HasBytes}
 use Rattle.meant_actions.specs.Exchanging.{IsPort, IsUndisturbed, OnlySchedulingChanges}
 use Rattle.meant_actions.specs.Receiving.{InputsBehave}
 use Rattle.meant_actions.proofs.Acting.{straight_behaves, lie_both, none_there, first_within}
-use Rattle.meant_actions.proofs.Bytes.{free_stays, waiting_stays, word_stays}
 use Rattle.meant_actions.proofs.Exchanging.{link_pushed}
 use Rattle.meant_actions.proofs.Locating.{IsLocated, scalar_located, known_located, other_located}
 use Rattle.meant_actions.proofs.Locating.{fewer_beside}
-use Rattle.meant_actions.proofs.Messages.{sent_back, word_over, message_there}
-use Rattle.meant_actions.proofs.Variables.{whole, element, element_place, with_element, element_stays, scalar_target}
-use Rattle.meant_actions.proofs.Variables.{scalar_below, element_target_is, LeavesStored, scalar_put, element_put}
+use Rattle.meant_actions.proofs.Messages.{sent_back, word_over}
+use Rattle.meant_actions.proofs.Variables.{whole, element, element_place, with_element, scalar_target}
+use Rattle.meant_actions.proofs.Variables.{scalar_within, element_target_is, LeavesStored, scalar_put, element_put}
 
 -- the length of a message is what code pushes
 length_is : (type : ValueType) → address (length_of type) ≡ message_length type
@@ -273,11 +272,10 @@ module _ (c : LaidCode) (g : Ground) (top at to : ℕ) (es : List Entry) (env : 
       → Behaves c (EndsAt g top es to) q (goes_on target bytes))
       → Behaves c (EndsAt g top es to) (point at h) (acting ports (Input channel target) env)
   asks_for target t place count lie x short on =
-      let room = fewer_beside g.footing.depth top place count (message_length port.carries) short x.room in
+      let room = fewer_beside g.footing.depth g.words place count (message_length port.carries) short x.room in
       let outer = lie_both c at to (target_address t ++ exchange g.homes es channel INPUT) (cleaned t) lie in
       let both = lie_both c at outer.0 (target_address t) (exchange g.homes es channel INPUT) outer.1 in
       let ends = room.before in
-      let more = begins.carries.room in
       let few = begins.carries.frame.few in
       subst (λ (d : Doing). Behaves c (EndsAt g top es to) (point at h) d)
       (sym (ap (λ (o : Option Port). asking o target env) is_port.is))
@@ -286,7 +284,7 @@ module _ (c : LaidCode) (g : Ground) (top at to : ℕ) (es : List Entry) (env : 
       is_port.link both.0 place channel x.addressed.after is_port.at is_port.carries
       (record {
         at = ap place_of x.addressed.at ∙ x.is;
-        low = omega (arith, ends, more, few);
+        low = omega (arith, ends, few);
         beside = room.beside;
       })
       both.2
@@ -299,40 +297,32 @@ module _ (c : LaidCode) (g : Ground) (top at to : ℕ) (es : List Entry) (env : 
       outer_words_stay g top top g.words es env h.memory x.addressed.after.memory begins.meets (omega arith)
       (omega arith) x.addressed.changes begins.carries
 
-  bytes_before : (t : Target) (place count : ℕ) → (x : IsLocated g top (target_address t) place count h)
-      → HasBytes g.footing.depth top x.addressed.after.memory
-  bytes_before t place count x =
-      free_stays g.footing.depth top g.words h.memory x.addressed.after.memory x.addressed.changes begins.bytes
-
   -- its place is in memory
   room_before : (t : Target) (place count : ℕ) → (x : IsLocated g top (target_address t) place count h)
       → place + count ≤ length x.addressed.after.memory
   room_before t place count x =
       let kept = kept_before t place count x in
       let ends = x.room.before in
-      omega (arith, ends, kept.room, kept.frame.inside)
+      omega (arith, ends, kept.frame.inside)
 
   -- what is left where a number was stored
   ends_here : (target : Place) (v : ℤ) (q : Point) (change : Memory → Memory) (old : Memory) → q.at ≡ to
       → (left : LeavesStored g top es env target v change) → Carries g top es env old
-      → HasBytes g.footing.depth top (change old)
       → OnlySchedulingChanges g.footing.depth (change old) q.held.memory → EndsAt g top es to left.after q
-  ends_here target v q change old is left carries has changes = record {
+  ends_here target v q change old is left carries changes = record {
     at = is;
     carries = undisturbed.carries left.after (change old) q.held.memory changes (left.carries old carries);
-    bytes = waiting_stays g.footing.depth top (change old) q.held.memory changes has;
   }
 
   -- the message is stored where it came to
   ends_with : (target : Place) (bytes : List ℕ) (q : Point) (change : Memory → Memory) (old : Memory) → q.at ≡ to
       → LeavesStored g top es env target (received port.carries bytes) change → Carries g top es env old
-      → HasBytes g.footing.depth top (change old)
       → OnlySchedulingChanges g.footing.depth (change old) q.held.memory
       → Behaves c (EndsAt g top es to) q (goes_on target bytes)
-  ends_with target bytes q change old is left carries has changes =
+  ends_with target bytes q change old is left carries changes =
       subst (λ (d : Doing). Behaves c (EndsAt g top es to) q d)
       (sym (ap (λ (o : Option Environment). or_fails o Leaves) left.is))
-      (over (ends_here target (received port.carries bytes) q change old is left carries has changes))
+      (over (ends_here target (received port.carries bytes) q change old is left carries changes))
 
   -- ---- elements
 
@@ -353,7 +343,6 @@ module _ (c : LaidCode) (g : Ground) (top at to : ℕ) (es : List Entry) (env : 
       (element_put g top es env name e port.carries size n w i v begins.meets array sub.pushed.is sub.inside
       (received_is_of_type port.carries bytes))
       (kept_before t place count x)
-      (element_stays port.carries g.footing.depth top w i v old (bytes_before t place count x))
       (element_came port.carries g.footing.depth w i bytes old q.held.memory long all (room_before t place count x)
       came))
 
@@ -378,7 +367,6 @@ module _ (c : LaidCode) (g : Ground) (top at to : ℕ) (es : List Entry) (env : 
         (scalar_put g top es env name port.carries n w v begins.meets scalar
         (of_type_fits port.carries v (received_is_of_type port.carries bytes)))
         (kept_before t (word_place w) 4 located)
-        (word_stays g.footing.depth top (word_place w) v old (bytes_before t (word_place w) 4 located))
         (subst (λ (type : ValueType). OnlySchedulingChanges g.footing.depth
         (with_frame_word w (received type bytes) old) q.held.memory) (sym same)
         (word_came g.footing.depth (word_place w) bytes old q.held.memory (long ∙ ap message_length same) all
@@ -393,8 +381,8 @@ module _ (c : LaidCode) (g : Ground) (top at to : ℕ) (es : List Entry) (env : 
     byte_ends middle (b ∷ []) q same rest long all is came =
         let t : Target = OwnWord value_type.Byte w in
         let kept = kept_before t (word_place w) 4 located in
-        let below = scalar_below g top es env name port.carries n w old scalar kept in
-        let inside : IsInFrame w = omega (arith, below, kept.room, kept.frame.few) in
+        let within = scalar_within g top es env name port.carries n w old scalar kept in
+        let inside : IsInFrame w = omega (arith, within, kept.frame.few) in
         let small : b < 256 = all 0 in
         let first : Held = with_pushed (word_of (word_address w)) q.held in
         let number : received port.carries (b ∷ []) ≡ pos b =
@@ -414,7 +402,6 @@ module _ (c : LaidCode) (g : Ground) (top at to : ℕ) (es : List Entry) (env : 
         (over (ends_here (whole name) (pos b)
         (point to (with_memory (with_frame_word w (pos b) q.held.memory) (without_a (with_a (pos b) first))))
         (with_frame_word w (pos b)) old refl left kept
-        (word_stays g.footing.depth top (word_place w) (pos b) old (bytes_before t (word_place w) 4 located))
         (word_again g.footing.depth (word_place w) b (b ∷ []) old q.held.memory long
         (room_before t (word_place w) 4 located) came)))))
     byte_ends middle (b ∷ d ∷ bytes) q same rest long all is came = absurd (cc)

@@ -42,23 +42,22 @@ use Rattle.placed_code.specs.LaidCode.{LaidCode, Lie}
 use Rattle.placed_code.specs.Points.{Point, point}
 use Rattle.placed_code.specs.Behaves.{Behaves, over, sends, Has, IsScheduling, Waited}
 use Rattle.placed_code.proofs.StraightPieces.{lead_both}
-use Rattle.meant_lines.specs.Words.{IsInFrame, Holds, with_frame_word}
+use Rattle.meant_lines.specs.Words.{IsInFrame, with_frame_word}
 use Rattle.meant_lines.specs.Instructions.{with_memory, without_a}
-use Rattle.meant_lines.specs.Carrying.{Ground, HoldsElement, HoldsArray, IsScalarKept, IsKeptThere, Carries}
-use Rattle.meant_lines.proofs.Words.{words_have_places, addresses_read_back, changes_writing, changes_both}
+use Rattle.meant_lines.specs.Carrying.{Ground, HoldsWord, HoldsElement, HoldsArray, IsScalarKept, IsKeptThere}
+use Rattle.meant_lines.specs.Carrying.{Carries}
+use Rattle.meant_lines.proofs.Words.{words_have_places, addresses_read_back, changes_writing}
 use Rattle.meant_lines.proofs.Carrying.{names_are_kept, outer_words_stay}
 use Rattle.meant_lines.proofs.Instructions.{constants_are_pushed, words_are_stored, addresses_are_pushed}
 use Rattle.meant_lines.proofs.Pushing.{carries_after}
+use Rattle.meant_lines.proofs.WrittenBytes.{message_there}
 use Rattle.meant_actions.specs.Acting.{Begins, EndsAt, AreWithin, IsPushed, IsScalar, IsInWords}
-use Rattle.meant_actions.specs.Bytes.{HasBytes}
 use Rattle.meant_actions.specs.Exchanging.{IsPort, IsUndisturbed, OnlySchedulingChanges}
 use Rattle.meant_actions.specs.Sending.{IsElementOf, HasSource, OutputsBehave}
 use Rattle.meant_actions.proofs.Acting.{straight_behaves, lie_both, first_within, rest_within, temporary_within}
-use Rattle.meant_actions.proofs.Bytes.{free_stays, waiting_stays, message_in_word, message_in_byte}
 use Rattle.meant_actions.proofs.Exchanging.{link_pushed}
-use Rattle.meant_actions.proofs.Locating.{IsBesideScheduling, IsLocated, bytes_there, scalar_located, known_located}
-use Rattle.meant_actions.proofs.Locating.{other_located, fewer_beside}
-use Rattle.meant_actions.proofs.Messages.{message_there}
+use Rattle.meant_actions.proofs.Locating.{IsLocated, scalar_located, known_located, other_located, fewer_beside}
+use Rattle.meant_actions.proofs.Messages.{message_in_word, message_in_byte}
 use Rattle.meant_actions.proofs.Variables.{element_place, element_target_is, array_holds}
 
 -- the length of a message is what code pushes
@@ -88,7 +87,6 @@ module _ (c : LaidCode) (g : Ground) (top to : ℕ) (es : List Entry) (env : Env
     pub beside : (place + length message ≤ 4 * g.footing.depth) ⊎ (word_place g.footing.depth ≤ place)
     pub has : Has h.memory place message
     pub carries : Carries g top es env h.memory
-    pub bytes : HasBytes g.footing.depth top h.memory
 
   -- the process goes on with memory as it was, but for what scheduling takes
   ends_at : (at : ℕ) (h k : Held) (q : Point) → Waited c (point at k) q → k.memory ≡ h.memory → q.at ≡ to
@@ -104,7 +102,6 @@ module _ (c : LaidCode) (g : Ground) (top to : ℕ) (es : List Entry) (env : Env
       record {
         at = is;
         carries = undisturbed.carries env h.memory q.held.memory changes is_message.carries;
-        bytes = waiting_stays g.footing.depth top h.memory q.held.memory changes is_message.bytes;
       }
 
   -- the channel and the length are pushed
@@ -183,8 +180,7 @@ numbered hs None h is = absurd (cc is)
 numbered hs (Some n) h is = (n, refl)
 
 module _ (g : Ground) (top : ℕ) (es : List Entry) (env : Environment) (name : List ℕ) (v : ℤ) (m : Memory)
-    (undisturbed : IsUndisturbed g top es) (meets : held.Meets env es) (carries : Carries g top es env m)
-    (bytes : HasBytes g.footing.depth top m) where
+    (meets : held.Meets env es) (carries : Carries g top es env m) where
   -- what a name means is kept in its home
   kept_there : (k : Meaning) (h : Option Home) → meaning_in name es ≡ Some k → home_of g.homes es name ≡ h
       → IsKeptThere g m h k (held_in name env)
@@ -194,46 +190,38 @@ module _ (g : Ground) (top : ℕ) (es : List Entry) (env : Environment) (name : 
 
   -- ---- a scalar
 
-  word_holds : (w : ℕ) (h : held.Held) → one_of h ≡ Some v → IsScalarKept g m (Word w) h → Holds m w v
-  word_holds w (One u) is kept = let same : u ≡ v = cc (is) in subst (λ (x : ℤ). Holds m w x) same kept
+  word_holds : (w : ℕ) (h : held.Held) → one_of h ≡ Some v → IsScalarKept g m (Word w) h → HoldsWord m w v
+  word_holds w (One u) is kept = let same : u ≡ v = cc (is) in subst (HoldsWord m w) same kept
   word_holds w Nothing is kept = absurd kept
   word_holds w (Many vs) is kept = absurd kept
 
   -- the message of a scalar is in its word
   pub scalar_message : (type : ValueType) (n w : ℕ) → IsScalar g es name type n w → one_of (held_in name env) ≡ Some v
-      → IsBesideScheduling g.footing.depth top (word_place w) 4 → Has m (word_place w) (message_of type v)
-  scalar_message type n w scalar is room =
-      message_in_word m (word_place w) v (bytes_there g.footing.depth top (word_place w) 4 m room bytes) type
-      (word_holds w (held_in name env) is
-      (kept_there (Scalar scalar.kind type scalar.range) (Some (Word w)) scalar.means scalar.at))
+      → Has m (word_place w) (message_of type v)
+  scalar_message type n w scalar is =
+      let holds = word_holds w (held_in name env) is
+      (kept_there (Scalar scalar.kind type scalar.range) (Some (Word w)) scalar.means scalar.at) in
+      message_in_word m (word_place w) v holds.bytes type holds.is
 
   -- ---- an element
 
-  element_message_by : (type : ValueType) (w i : ℕ)
-      → IsBesideScheduling g.footing.depth top (element_place type w i) (message_length type)
-      → HoldsElement type m w i v → Has m (element_place type w i) (message_of type v)
-  element_message_by value_type.Int w i room holds =
-      message_in_word m (word_place (w + i)) v
-      (bytes_there g.footing.depth top (word_place (w + i)) 4 m room bytes) value_type.Int holds
-  element_message_by value_type.Byte w i room holds =
-      let at : word_place w + i + 0 ≡ word_place w + i = omega arith in
-      let small : holds.0 < 256 =
-      bytes_there g.footing.depth top (word_place w + i) 1 m room bytes 0 holds.0 (omega arith)
-      (ap (byte_at m) at ∙ holds.2) in
+  element_message_by : (type : ValueType) (w i : ℕ) → HoldsElement type m w i v
+      → Has m (element_place type w i) (message_of type v)
+  element_message_by value_type.Int w i holds =
+      message_in_word m (word_place (w + i)) v holds.bytes value_type.Int holds.is
+  element_message_by value_type.Byte w i holds =
       subst (λ (x : ℤ). Has m (word_place w + i) (message_of value_type.Byte x)) (sym holds.1)
-      (message_in_byte m (word_place w + i) holds.0 small holds.2)
+      (message_in_byte m (word_place w + i) holds.0 holds.3 holds.2)
 
   -- the message of an element is where it is
   pub element_message : (type : ValueType) (size n w i : ℕ) → IsInWords g es name type size n w
-      → element_of (held_in name env) (pos i) ≡ Some v
-      → IsBesideScheduling g.footing.depth top (element_place type w i) (message_length type)
-      → Has m (element_place type w i) (message_of type v)
-  element_message type size n w i array is room =
+      → element_of (held_in name env) (pos i) ≡ Some v → Has m (element_place type w i) (message_of type v)
+  element_message type size n w i array is =
       let found = array_holds g es env name type size n w meets array in
       let kept : HoldsArray type m w found.0 =
       subst (λ (h : held.Held). IsKeptThere g m (Some (Word w)) (Array array.kind type (Some size) array.range) h)
       found.1 (kept_there (Array array.kind type (Some size) array.range) (Some (Word w)) array.means array.at) in
-      element_message_by type w i room
+      element_message_by type w i
       (kept i v (ap (λ (h : held.Held). element_of h (pos i)) (sym found.1) ∙ is))
 
 -- ---- outputs
@@ -251,16 +239,14 @@ module _ (c : LaidCode) (g : Ground) (top at to : ℕ) (es : List Entry) (env : 
   -- from where the value is already
   sends_from : (value : Expression) (ps : List Piece) (place count : ℕ) → number_of env value ≡ Some v
       → (x : IsLocated g top ps place count h) → length (message_of port.carries v) ≤ count
-      → ((m : Memory) → Carries g top es env m → HasBytes g.footing.depth top m
-      → Has m place (message_of port.carries v))
+      → ((m : Memory) → Carries g top es env m → Has m place (message_of port.carries v))
       → Lie c at (ps ++ exchange g.homes es channel OUTPUT) to
       → Behaves c (EndsAt g top es to) (point at h) (acting ports (Output channel value) env)
   sends_from value ps place count is x fits there lie =
       let k = x.addressed.after in
       let kept = outer_words_stay g top top g.words es env h.memory k.memory begins.meets (omega arith) (omega arith)
       x.addressed.changes begins.carries in
-      let has = free_stays g.footing.depth top g.words h.memory k.memory x.addressed.changes begins.bytes in
-      let room = fewer_beside g.footing.depth top place count (length (message_of port.carries v)) fits x.room in
+      let room = fewer_beside g.footing.depth g.words place count (length (message_of port.carries v)) fits x.room in
       let ends = room.before in
       let both = lie_both c at to ps (exchange g.homes es channel OUTPUT) lie in
       subst (λ (d : Doing). Behaves c (EndsAt g top es to) (point at h) d) (sym (output_is value is))
@@ -270,11 +256,10 @@ module _ (c : LaidCode) (g : Ground) (top at to : ℕ) (es : List Entry) (env : 
       (record {
         place = place;
         at = ap place_of x.addressed.at ∙ x.is;
-        low = omega (arith, ends, kept.room, kept.frame.few);
+        low = omega (arith, ends, kept.frame.few);
         beside = room.beside;
-        has = there k.memory kept has;
+        has = there k.memory kept;
         carries = kept;
-        bytes = has;
       })
       both.2))
 
@@ -317,8 +302,6 @@ module _ (c : LaidCode) (g : Ground) (top at to : ℕ) (es : List Entry) (env : 
             (message_there k.memory (word_place top) v
             (let long = kept.frame.inside in omega (arith, room, long)) port.carries);
         carries = still;
-        bytes = free_stays g.footing.depth top g.words h.memory stored.memory (changes_both first.changes writes)
-            begins.bytes;
       })
       both.2))
 
@@ -356,9 +339,7 @@ module _ (c : LaidCode) (g : Ground) (top at to : ℕ) (es : List Entry) (env : 
         } in
         let x = scalar_located g top es env name port.carries h undisturbed begins.carries n.0 w scalar in
         sends_from (Alone (Named name)) (points w ∷ []) (word_place w) 4 is x (short port.carries v)
-        (λ m carries has.
-        scalar_message g top es env name v m undisturbed begins.meets carries has port.carries n.0 w scalar is x.room)
-        lie
+        (λ m carries. scalar_message g top es env name v m begins.meets carries port.carries n.0 w scalar is) lie
 
     named_sends : (o : Option Home) (k : Option Meaning) → home_of g.homes es name ≡ o → meaning_in name es ≡ k
         → type_of es (Alone (Named name)) ≡ Ok (type_of_values port.carries)
@@ -373,7 +354,7 @@ module _ (c : LaidCode) (g : Ground) (top at to : ℕ) (es : List Entry) (env : 
         (ap (λ (h : Option Home). whole_target h (meaning_in name es)) is ∙ ap (whole_target (Some (Word w))) means)
         lie)
     named_sends (Some (Passed w)) (Some (Scalar kind type range)) is means type_is pushed all lie =
-        absurd (kept_there g top es env name v h.memory undisturbed begins.meets begins.carries begins.bytes
+        absurd (kept_there g top es env name v h.memory begins.meets begins.carries
         (Scalar kind type range) (Some (Passed w)) means is)
     named_sends o k is means type_is pushed all lie =
         sends_none (Alone (Named name))
@@ -411,11 +392,9 @@ module _ (c : LaidCode) (g : Ground) (top at to : ℕ) (es : List Entry) (env : 
         from_place n array ps x lie =
             sends_from value_here ps (element_place port.carries w sub.number) (message_length port.carries) pushed.is x
             (long port.carries v)
-            (λ m carries has.
-            element_message g top es env name v m undisturbed begins.meets carries has port.carries sub.size n w
-            sub.number array
-            (sym (ap (option_and_then (element_of (held_in name env))) sub.subscript.pushed.is) ∙ pushed.is) x.room)
-            lie
+            (λ m carries.
+            element_message g top es env name v m begins.meets carries port.carries sub.size n w sub.number array
+            (sym (ap (option_and_then (element_of (held_in name env))) sub.subscript.pushed.is) ∙ pushed.is)) lie
 
         by_target : (n : ℕ) → IsInWords g es name port.carries sub.size n w
             → (source_of g.homes es top value_here ≡ KnownElement port.carries w sub.number)
@@ -444,7 +423,7 @@ module _ (c : LaidCode) (g : Ground) (top at to : ℕ) (es : List Entry) (env : 
         (sym (ap (λ (k : Option Meaning). both (element_type k) (type_of es e) subscripted) sub.means) ∙ type_is))
         pushed all lie
     element_by (Some (Passed w)) is type_is pushed all lie =
-        absurd (kept_there g top es env name v h.memory undisturbed begins.meets begins.carries begins.bytes
+        absurd (kept_there g top es env name v h.memory begins.meets begins.carries
         (Array sub.kind sub.type (Some sub.size) sub.range) (Some (Passed w)) sub.means is)
     element_by o is type_is pushed all lie =
         sends_none value_here

@@ -30,12 +30,10 @@ use Rattle.line_pieces.specs.Actions.{OwnWord, KnownElement, OtherElement, whole
 use Rattle.line_pieces.specs.Actions.{by_number, target_of}
 use Rattle.placed_code.specs.StraightPieces.{word_place}
 use Rattle.meant_lines.specs.Words.{with_frame_word}
-use Rattle.meant_lines.specs.Carrying.{Ground, end_of, Carries}
-use Rattle.meant_lines.proofs.Carrying.{homes_end_before}
+use Rattle.meant_lines.specs.Carrying.{Ground, IsInside, Carries}
+use Rattle.meant_lines.proofs.Carrying.{homes_are_inside}
 use Rattle.meant_lines.proofs.Storing.{scalars_are_carried, elements_are_carried, bytes_are_carried}
 use Rattle.meant_actions.specs.Acting.{IsScalar, IsInWords, IsSubscript}
-use Rattle.meant_actions.specs.Bytes.{HasBytes}
-use Rattle.meant_actions.proofs.Bytes.{byte_stays, word_stays, worth_is_small}
 
 -- ---- places
 
@@ -60,12 +58,6 @@ abbrev pub with_element : ValueType → (w i : ℕ) → ℤ → Memory → Memor
 with_element value_type.Int w i v m = with_frame_word (w + i) v m
 with_element value_type.Byte w i v m = with_byte m (word_place w + i) (Some (byte_worth 1 v))
 
-pub element_stays : (type : ValueType) (depth top w i : ℕ) (v : ℤ) (m : Memory) → HasBytes depth top m
-    → HasBytes depth top (with_element type w i v m)
-element_stays value_type.Int depth top w i v m has = word_stays depth top (word_place (w + i)) v m has
-element_stays value_type.Byte depth top w i v m has =
-    byte_stays depth top (word_place w + i) (byte_worth 1 v) m (worth_is_small 1 v) has
-
 -- ---- scalars
 
 -- a scalar's place is its own word
@@ -75,34 +67,34 @@ scalar_target g es t name type n w scalar =
     ap (λ (h : Option Home). whole_target h (meaning_in name es)) scalar.at
     ∙ ap (whole_target (Some (Word w))) scalar.means
 
--- which lies below the words that are free
-pub scalar_below : (g : Ground) (top : ℕ) (es : List Entry) (env : Environment) (name : List ℕ) (type : ValueType)
-    (n w : ℕ) (m : Memory) → IsScalar g es name type n w → Carries g top es env m → w + 1 ≤ top
-scalar_below g top es env name type n w m scalar carries =
-    subst (λ (h : Option Home). end_of h (Scalar scalar.kind type scalar.range) ≤ top) scalar.at
-    (homes_end_before g.homes es top name (Scalar scalar.kind type scalar.range) carries.rise scalar.means)
+-- which is one of the frame
+pub scalar_within : (g : Ground) (top : ℕ) (es : List Entry) (env : Environment) (name : List ℕ) (type : ValueType)
+    (n w : ℕ) (m : Memory) → IsScalar g es name type n w → Carries g top es env m → w + 1 ≤ g.words
+scalar_within g top es env name type n w m scalar carries =
+    subst (λ (h : Option Home). IsInside g.words h (Scalar scalar.kind type scalar.range)) scalar.at
+    (homes_are_inside g.words g.homes es name (Scalar scalar.kind type scalar.range) carries.room scalar.means)
 
 -- ---- elements
 
--- an array lies below the words that are free
-pub array_below : (g : Ground) (top : ℕ) (es : List Entry) (env : Environment) (name : List ℕ) (type : ValueType)
+-- an array is in words of the frame
+pub array_within : (g : Ground) (top : ℕ) (es : List Entry) (env : Environment) (name : List ℕ) (type : ValueType)
     (size n w : ℕ) (m : Memory) → IsInWords g es name type size n w → Carries g top es env m
-    → w + words_for type size ≤ top
-array_below g top es env name type size n w m array carries =
-    subst (λ (h : Option Home). end_of h (Array array.kind type (Some size) array.range) ≤ top) array.at
-    (homes_end_before g.homes es top name (Array array.kind type (Some size) array.range) carries.rise array.means)
+    → w + words_for type size ≤ g.words
+array_within g top es env name type size n w m array carries =
+    subst (λ (h : Option Home). IsInside g.words h (Array array.kind type (Some size) array.range)) array.at
+    (homes_are_inside g.words g.homes es name (Array array.kind type (Some size) array.range) carries.room array.means)
 
-word_within : (type : ValueType) (w i size top : ℕ) → i < size → w + words_for type size ≤ top
-    → element_word type w i < top
-word_within value_type.Int w i size top less below = omega (arith, less, below)
-word_within value_type.Byte w i size top less below = omega (arith, less, below)
+word_within : (type : ValueType) (w i size words : ℕ) → i < size → w + words_for type size ≤ words
+    → element_word type w i < words
+word_within value_type.Int w i size words less below = omega (arith, less, below)
+word_within value_type.Byte w i size words less below = omega (arith, less, below)
 
--- and so does each of its elements
-pub element_below : (g : Ground) (top : ℕ) (es : List Entry) (env : Environment) (name : List ℕ) (type : ValueType)
+-- and so is each of its elements
+pub element_within : (g : Ground) (top : ℕ) (es : List Entry) (env : Environment) (name : List ℕ) (type : ValueType)
     (size n w i : ℕ) (m : Memory) → IsInWords g es name type size n w → i < size → Carries g top es env m
-    → element_word type w i < top
-element_below g top es env name type size n w i m array less carries =
-    word_within type w i size top less (array_below g top es env name type size n w m array carries)
+    → element_word type w i < g.words
+element_within g top es env name type size n w i m array less carries =
+    word_within type w i size g.words less (array_within g top es env name type size n w m array carries)
 
 -- a range with one number alone has that one
 single_by : (test : Bool) (r : Ends) (i : ℕ) → int_eq r.lo r.hi ≡ test → InRange r (pos i)
@@ -205,7 +197,7 @@ module _ (g : Ground) (top : ℕ) (es : List Entry) (env : Environment) (name : 
       subst (λ (x : ℕ). Carries g top es (put n (Many ws) env) (with_byte m (word_place w + i) (Some x)))
       (sym (byte_is b small))
       (bytes_are_carried g top n w i b es env name array.kind (Some size) array.range vs ws m meets array.means
-      array.number array.at holds is carries)
+      array.number array.at holds is small carries)
   element_carried value_type.Byte (negsuc b) array typed is =
       let low = typed.from_lo in absurd (omega (arith, ints, low))
 

@@ -26,7 +26,6 @@ use Rattle.placed_code.specs.Points.{Point, point}
 use Rattle.placed_code.specs.Behaves.{Behaves}
 use Rattle.meant_lines.specs.Carrying.{Ground, Carries}
 use Rattle.meant_lines.specs.Pushing.{Pushes, AllStandOn}
-use Rattle.meant_actions.specs.Bytes.{HasBytes}
 
 -- The code runs on this ground, and memory carries an environment that meets the scope.
 pub record Begins (c : LaidCode) (g : Ground) (top : ℕ) (es : List Entry) (env : Environment) (h : Held)
@@ -34,13 +33,11 @@ pub record Begins (c : LaidCode) (g : Ground) (top : ℕ) (es : List Entry) (env
   pub footing : c.footing ≡ g.footing
   pub meets : Meets env es
   pub carries : Carries g top es env h.memory
-  pub bytes : HasBytes g.footing.depth top h.memory
 
 -- The process has come to this offset, and memory carries the environment that is left.
 pub record EndsAt (g : Ground) (top : ℕ) (es : List Entry) (to : ℕ) (env : Environment) (q : Point) : Type 0 where
   pub at : q.at ≡ to
   pub carries : Carries g top es env q.held.memory
-  pub bytes : HasBytes g.footing.depth top q.held.memory
 
 -- what code on this ground stores is in the frame
 abbrev pub AreWithin : Ground → List Piece → Type 0

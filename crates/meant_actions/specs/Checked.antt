@@ -1,6 +1,5 @@
 -- What an action that breaks no rule gives: it is ready, where names have the homes of their kinds.
-use Rattle.std.specs.Prelude.{◌≡◌, ℕ, ◌≤◌, true, List, Option, Some}
-use Rattle.module_format.specs.declared.limits.TheConstants.{MAX_DATA_WORDS}
+use Rattle.std.specs.Prelude.{◌≡◌, ℕ, true, List, Option, Some}
 use Rattle.word_arithmetic.specs.Range.{Ends}
 use Rattle.occam_parser.specs.declared.tree.ValueType.{ValueType}
 use Rattle.occam_parser.specs.Lines.{Action, Input, Output}
@@ -18,6 +17,7 @@ use Rattle.usage_checks.specs.Holding.{ActionHolds}
 use Rattle.usage_checks.specs.Whole.{AreWhole}
 use Rattle.line_pieces.specs.Homes.{Word, home_of}
 use Rattle.meant_lines.specs.Carrying.{Ground}
+use Rattle.meant_lines.specs.Pushing.{IsCounted}
 use Rattle.meant_actions.specs.Actions.{IsReady}
 use Rattle.meant_actions.specs.Exchanging.{IsPort}
 
@@ -44,6 +44,6 @@ HasPort g es env ports action = Unit {0}
 -- Where that is so, an action that breaks no rule is ready, but for an instance.
 abbrev pub CheckedActionsAreReady : Type 0
 CheckedActionsAreReady = (g : Ground) (top : ℕ) (es : List Entry) (env : Environment) (ports : List (Option Port))
-    (signatures : List (List Parameter)) (action : Action) → top ≤ MAX_DATA_WORDS → HasVariables g es env
+    (signatures : List (List Parameter)) (action : Action) → IsCounted top → HasVariables g es env
     → HasPort g es env ports action → ActionHolds signatures es action
     → action_has_words action ≡ true → IsSequentialAction action → IsReady g top es env ports action

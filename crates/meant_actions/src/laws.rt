@@ -4,7 +4,6 @@ ghost use Rattle.meant_actions.specs.Acting.{SkipsBehave, StopsBehave};
 ghost use Rattle.meant_actions.specs.Actions.{ActionsBehave};
 ghost use Rattle.meant_actions.specs.Assigning.{AssignmentsBehave};
 ghost use Rattle.meant_actions.specs.Checked.{CheckedActionsAreReady};
-ghost use Rattle.meant_actions.specs.Bytes.{BytesStay};
 ghost use Rattle.meant_actions.specs.Exchanging.{RootsAreUndisturbed};
 ghost use Rattle.meant_actions.specs.Receiving.{InputsBehave};
 ghost use Rattle.meant_actions.specs.Sending.{OutputsBehave};
@@ -13,11 +12,6 @@ ghost use Rattle.meant_actions.specs.Sending.{OutputsBehave};
 pub fn nothing_is_done()
     ensures skips { SkipsBehave }
     ensures stops { StopsBehave }
-{}
-
-/// What memory has where names are stays bytes, whatever code stores and while a process waits.
-pub fn bytes_stay()
-    ensures { BytesStay }
 {}
 
 /// In the root no name and no temporary is in the words that scheduling takes.

@@ -4,6 +4,6 @@
 mod laws;
 
 pub use laws::{
-    actions_behave, assignments_behave, bytes_stay, checked_actions_are_ready, inputs_behave,
-    nothing_is_done, outputs_behave, undisturbed_frames_carry,
+    actions_behave, assignments_behave, checked_actions_are_ready, inputs_behave, nothing_is_done,
+    outputs_behave, undisturbed_frames_carry,
 };

@@ -3,8 +3,8 @@ use Rattle.std.proofs.Common.{◌≡◌, ℕ, zero, suc, ◌+◌, ◌/◌, ◌<�
 use Rattle.std.proofs.Common.{cond, List, [], ◌∷◌, length, Option, Some, None, refl, sym, subst, ◌∙◌, arith, nat_eq}
 use Rattle.std.proofs.Common.{bytes_eq}
 use Rattle.std.specs.Prelude.{slice_get, option_and_then}
-use Rattle.std.proofs.lemmas.Bool.{eqb-true}
-use Rattle.machine_state.specs.Memory.{Memory}
+use Rattle.std.proofs.lemmas.Bool.{cases_lt, eqb-true}
+use Rattle.machine_state.specs.Memory.{Memory, byte_at}
 use Rattle.occam_parser.specs.declared.tree.ValueType.{ValueType}
 use Rattle.occam_parser.specs.declared.tree.ValueType.TheVariants as value_type
 use Rattle.scalar_ranges.specs.Entries.{Meaning, Constant, Scalar, Array, Channel, Channels, Procedure, Entry}
@@ -22,10 +22,11 @@ use Rattle.line_pieces.specs.Homes.{Home, Nowhere, Word, Block, Link, Passed, ho
 use Rattle.placed_code.specs.StraightPieces.{word_place}
 use Rattle.placed_code.proofs.TablesInMemory.{tables_stay}
 use Rattle.meant_lines.specs.Words.{Holds, ChangesWithin}
-use Rattle.meant_lines.specs.Carrying.{Ground, HoldsByte, HoldsArray, HoldsTable}
-use Rattle.meant_lines.specs.Carrying.{IsScalarKept, IsArrayKept, IsKeptThere, AreKept, words_of, start_of}
-use Rattle.meant_lines.specs.Carrying.{end_of, Rise, HasFrame}
-use Rattle.meant_lines.specs.CarryingLaws.{NamesAreKept, HomesEndBefore, OuterWordsStay, IsPartOf, OneNameChanges}
+use Rattle.meant_lines.specs.Carrying.{Ground, HoldsByte, HoldsWord, HoldsArray, HoldsTable}
+use Rattle.meant_lines.specs.Carrying.{IsScalarKept, IsArrayKept, IsKeptThere, AreKept, words_held, start_of}
+use Rattle.meant_lines.specs.Carrying.{end_of, Rise, IsInside, AreInside, HasFrame, Carries}
+use Rattle.meant_lines.specs.CarryingLaws.{NamesAreKept, HomesEndBefore, HomesAreInside, OuterWordsStay, IsPartOf}
+use Rattle.meant_lines.specs.CarryingLaws.{OneNameChanges}
 use Rattle.meant_lines.proofs.Words.{other_word}
 
 -- ---- lookups
@@ -94,11 +95,55 @@ home_by (Some n) hs es top name k number rise is =
 pub homes_end_before : HomesEndBefore
 homes_end_before hs es top name k rise is = home_by (number_in name es) hs es top name k refl rise is
 
+-- ---- homes in the frame
+
+-- a home that ends in the frame is in it
+pub ends_inside : (words : ℕ) (h : Option Home) (k : Meaning) → end_of h k ≤ words → IsInside words h k
+ends_inside words None k ends = ends
+ends_inside words (Some Nowhere) k ends = ends
+ends_inside words (Some (Word w)) (Constant type value) ends = ends
+ends_inside words (Some (Word w)) (Scalar kind type range) ends = ends
+ends_inside words (Some (Word w)) (Array kind type size range) ends = ends
+ends_inside words (Some (Word w)) (Channel type) ends = tt
+ends_inside words (Some (Word w)) (Channels type size) ends = tt
+ends_inside words (Some (Word w)) (Procedure number) ends = ends
+ends_inside words (Some (Block w head)) k ends = ends
+ends_inside words (Some (Link number)) k ends = ends
+ends_inside words (Some (home.Table values)) k ends = ends
+ends_inside words (Some (Passed w)) k ends = ends
+
+inside_by : (t : Bool) (words : ℕ) (hs : List Home) (e : Entry) (es : List Entry) (n : ℕ) (k : Meaning)
+    → nat_eq (length es) n ≡ t → cond t (Some e.meaning) (meaning_at n es) ≡ Some k
+    → IsInside words (slice_get hs (length es)) e.meaning
+    → (meaning_at n es ≡ Some k → IsInside words (slice_get hs n) k) → IsInside words (slice_get hs n) k
+inside_by true words hs e es n k test is here further =
+    let same : e.meaning ≡ k = cc in
+    let at : length es ≡ n = eqb-true (length es) n test in
+    subst (IsInside words (slice_get hs n)) same
+    (subst (λ (i : ℕ). IsInside words (slice_get hs i) e.meaning) at here)
+inside_by false words hs e es n k test is here further = further is
+
+inside_at : (words : ℕ) (hs : List Home) (es : List Entry) (n : ℕ) (k : Meaning) → AreInside words hs es
+    → meaning_at n es ≡ Some k → IsInside words (slice_get hs n) k
+inside_at words hs [] n k inside is = absurd (cc)
+inside_at words hs (e ∷ es) n k inside is =
+    inside_by (nat_eq (length es) n) words hs e es n k refl is inside.0 (inside_at words hs es n k inside.1)
+
+named_inside : (o : Option ℕ) (words : ℕ) (hs : List Home) (es : List Entry) (name : List ℕ) (k : Meaning)
+    → number_in name es ≡ o → AreInside words hs es → meaning_in name es ≡ Some k
+    → IsInside words (option_and_then (slice_get hs) o) k
+named_inside None words hs es name k number inside is = omega arith
+named_inside (Some n) words hs es name k number inside is =
+    inside_at words hs es n k inside (sym (meaning_found name n es number) ∙ is)
+
+pub homes_are_inside : HomesAreInside
+homes_are_inside words hs es name k inside is = named_inside (number_in name es) words hs es name k refl inside is
+
 -- ---- what stays
 
 -- none of these words is one of the home
 abbrev IsApart : Option Home → Meaning → ℕ → ℕ → Type 0
-IsApart (Some (Word w)) k first end = (w + words_of k ≤ first) ⊎ (end ≤ w)
+IsApart (Some (Word w)) k first end = (w + words_held k ≤ first) ⊎ (end ≤ w)
 IsApart (Some (Block w head)) k first end = (w + 2 ≤ first) ⊎ (end ≤ w)
 IsApart h k first end = Unit {0}
 
@@ -138,6 +183,39 @@ part_ends (Some (Link number)) k first end part = absurd part
 part_ends (Some (home.Table values)) k first end part = absurd part
 part_ends (Some (Passed w)) k first end part = absurd part
 
+-- a part that has a word is in the frame
+word_inside : (words w : ℕ) (k : Meaning) → IsInside words (Some (Word w)) k
+    → (words_held k ≡ 0) ⊎ (w + words_held k ≤ words)
+word_inside words w (Constant type value) inside = inr inside
+word_inside words w (Scalar kind type range) inside = inr inside
+word_inside words w (Array kind type size range) inside = inr inside
+word_inside words w (Channel type) inside = inl refl
+word_inside words w (Channels type size) inside = inl refl
+word_inside words w (Procedure number) inside = inr inside
+
+part_inside : (words : ℕ) (h : Option Home) (k : Meaning) (first end : ℕ) → IsInside words h k → first < end
+    → IsPartOf h k first end → end ≤ words
+part_inside words None k first end inside some part = absurd part
+part_inside words (Some Nowhere) k first end inside some part = absurd part
+part_inside words (Some (Word w)) k first end inside some part = by (word_inside words w k inside)
+  where
+    by : (words_held k ≡ 0) ⊎ (w + words_held k ≤ words) → end ≤ words
+    by (inl none) = absurd (omega (arith, none, some, part.0, part.1))
+    by (inr ends) = omega (arith, ends, part.1)
+part_inside words (Some (Block w head)) k first end inside some part = omega (arith, inside, part.1)
+part_inside words (Some (Link number)) k first end inside some part = absurd part
+part_inside words (Some (home.Table values)) k first end inside some part = absurd part
+part_inside words (Some (Passed w)) k first end inside some part = absurd part
+
+no_part : (h : Option Home) (k : Meaning) (first end : ℕ) → IsPartOf h k first end → IsPartOf h k first 0
+no_part None k first end part = absurd part
+no_part (Some Nowhere) k first end part = absurd part
+no_part (Some (Word w)) k first end part = (part.0, omega arith)
+no_part (Some (Block w head)) k first end part = (part.0, omega arith)
+no_part (Some (Link number)) k first end part = absurd part
+no_part (Some (home.Table values)) k first end part = absurd part
+no_part (Some (Passed w)) k first end part = absurd part
+
 pub item_below : {A : Type 0} (i : ℕ) (vs : List A) (v : A) → item_at i vs ≡ Some v → i < length vs
 item_below i [] v is = absurd (cc)
 item_below zero (w ∷ vs) v is = omega arith
@@ -149,7 +227,20 @@ module _ {first end : ℕ} {old new : Memory} (changes : ChangesWithin first end
 
   byte_stays : (place : ℕ) (v : ℤ) → (place < word_place first) ⊎ (word_place end ≤ place) → HoldsByte old place v
       → HoldsByte new place v
-  byte_stays place v apart is = (is.0, is.1, changes.bytes place apart ∙ is.2)
+  byte_stays place v apart is = (is.0, is.1, changes.bytes place apart ∙ is.2, is.3)
+
+  in_word : (w i : ℕ) → i < 4 → (w < first) ⊎ (end ≤ w)
+      → (word_place w + i < word_place first) ⊎ (word_place end ≤ word_place w + i)
+  in_word w i less (inl below) = inl (omega (arith, less, below))
+  in_word w i less (inr above) = inr (omega (arith, above))
+
+  -- a word and its bytes
+  pub number_stays : (w : ℕ) (v : ℤ) → (w < first) ⊎ (end ≤ w) → HoldsWord old w v → HoldsWord new w v
+  number_stays w v apart is = record {
+    is = word_stays w v apart is.is;
+    bytes = λ i byte less there.
+        is.bytes i byte less (sym (changes.bytes (word_place w + i) (in_word w i less apart)) ∙ there);
+  }
 
   word_within : (w size i : ℕ) → i < size → (w + size ≤ first) ⊎ (end ≤ w) → (w + i < first) ⊎ (end ≤ w + i)
   word_within w size i less (inl below) = inl (omega (arith, less, below))
@@ -163,7 +254,7 @@ module _ {first end : ℕ} {old new : Memory} (changes : ChangesWithin first end
   array_stays : (type : ValueType) (w size : ℕ) (vs : List ℤ) → length vs ≡ size
       → (w + words_for type size ≤ first) ⊎ (end ≤ w) → HoldsArray type old w vs → HoldsArray type new w vs
   array_stays value_type.Int w size vs long apart holds =
-      λ i v is. word_stays (w + i) v
+      λ i v is. number_stays (w + i) v
       (word_within w size i (let less = item_below i vs v is in omega (arith, less, long)) apart) (holds i v is)
   array_stays value_type.Byte w size vs long apart holds =
       λ i v is. byte_stays (word_place w + i) v
@@ -179,7 +270,7 @@ module _ {first end : ℕ} {old new : Memory} (changes : ChangesWithin first end
         → IsApart (Some h) (Scalar kind type range) first end → IsScalarKept g old h held → IsScalarKept g new h held
     scalar_stays Nowhere kind type range held apart is = absurd is
     scalar_stays (Word w) kind type range (One v) apart is =
-        word_stays w v (one_word w apart) is
+        number_stays w v (one_word w apart) is
       where
         one_word : (w : ℕ) → (w + 1 ≤ first) ⊎ (end ≤ w) → (w < first) ⊎ (end ≤ w)
         one_word w (inl below) = inl (omega (arith, below))
@@ -291,20 +382,44 @@ outer_words_stay g top first end es env old new meets low high changes carries =
   kept = all_stay changes g high es env top low meets carries.rise carries.kept;
   rise = carries.rise;
   room = carries.room;
+  counted = carries.counted;
   tables = λ values reads fit. table_stays changes g high values (carries.tables values reads fit);
 }
 
+-- where words from one to before an earlier one change, nothing does
+nothing_changes : (first end : ℕ) (old new : Memory) → end ≤ first → ChangesWithin first end old new
+    → ChangesWithin first 0 old new
+nothing_changes first end old new none changes = record {
+  bytes = λ place beside. by place (cases_lt place (word_place first));
+  size = changes.size;
+}
+  where
+    by : (place : ℕ) → (place < word_place first) ⊎ (word_place first ≤ place) → byte_at new place ≡ byte_at old place
+    by place (inl below) = changes.bytes place (inl below)
+    by place (inr above) = changes.bytes place (inr (omega (arith, above, none)))
+
 pub one_name_changes : OneNameChanges
 one_name_changes g top first end n es env k held old new meets is part changes there carries =
-    let ends : end_of (slice_get g.homes n) k ≤ top = ends_before g.homes es top n k carries.rise is in
-    let last : end ≤ end_of (slice_get g.homes n) k = part_ends (slice_get g.homes n) k first end part in
-    let high : end ≤ g.words = omega (arith, ends, last, carries.room) in
-    record {
+    by (cases_lt first end)
+  where
+    -- where an end is in the frame
+    until : (last : ℕ) → last ≤ g.words → IsPartOf (slice_get g.homes n) k first last
+        → ChangesWithin first last old new → Carries g top es (put n held env) new
+    until last high part changes = record {
       frame = frame_stays changes g high carries.frame;
       kept = put_kept changes g high n k held part there es env top is meets carries.rise carries.kept;
       rise = carries.rise;
       room = carries.room;
+      counted = carries.counted;
       tables = λ values reads fit. table_stays changes g high values (carries.tables values reads fit);
     }
 
-pub ruleset carrying = (names_are_kept, homes_end_before, outer_words_stay, one_name_changes)
+    by : (first < end) ⊎ (end ≤ first) → Carries g top es (put n held env) new
+    by (inl some) =
+        until end (part_inside g.words (slice_get g.homes n) k first end
+        (inside_at g.words g.homes es n k carries.room is) some part) part changes
+    by (inr none) =
+        until 0 (omega arith) (no_part (slice_get g.homes n) k first end part)
+        (nothing_changes first end old new none changes)
+
+pub ruleset carrying = (names_are_kept, homes_end_before, homes_are_inside, outer_words_stay, one_name_changes)

@@ -11,11 +11,12 @@ use Rattle.line_pieces.specs.Homes as home
 use Rattle.line_pieces.specs.Homes.{Home, Nowhere, Word, Block, Link, Passed, words_for}
 use Rattle.placed_code.specs.StraightPieces.{word_place}
 use Rattle.meant_lines.specs.Words.{Holds}
-use Rattle.meant_lines.specs.Carrying.{Ground, HoldsArray, IsScalarKept, IsArrayKept, IsKept, IsKeptThere, AreKept}
+use Rattle.meant_lines.specs.Carrying.{Ground, HoldsWord, HoldsArray, IsScalarKept, IsArrayKept, IsKept, IsKeptThere}
+use Rattle.meant_lines.specs.Carrying.{AreKept, IsInside, AreInside, words_held}
 use Rattle.meant_lines.specs.Zeroing.{AreZero}
 use Rattle.meant_lines.specs.Declaring.{with_home_there, NewNamesAreCarried, ZeroScalarsAreKept, ZeroArraysAreKept}
 use Rattle.meant_lines.proofs.Carrying.{outer_words_stay}
-use Rattle.meant_lines.proofs.Housing.{get_before, get_last, one_more}
+use Rattle.meant_lines.proofs.Housing.{get_before, get_last, rises_further}
 
 -- ---- other homes
 
@@ -74,11 +75,20 @@ kept_before g h m (e ∷ es) (b ∷ bs) less kept = (
   kept_before g h m es bs (omega (arith, less)) kept.1,
 )
 
+-- and are in the frame
+inside_before : (words : ℕ) (hs : List Home) (h : Home) (es : List Entry) → length es ≤ length hs
+    → AreInside words hs es → AreInside words (hs ++ h ∷ []) es
+inside_before words hs h [] less inside = tt
+inside_before words hs h (e ∷ es) less inside = (
+  subst (λ (o : Option Home). IsInside words o e.meaning)
+      (sym (get_before hs h (length es) (omega (arith, less)))) inside.0,
+  inside_before words hs h es (omega (arith, less)) inside.1,
+)
+
 pub new_names_are_carried : NewNamesAreCarried
-new_names_are_carried g top more es env name k held h old new meets long ends starts room changes there carries =
+new_names_are_carried g top more es env name k held h old new meets long ends starts counted inside changes there
+    carries =
     let stays = outer_words_stay g top top g.words es env old new meets (omega arith) (omega arith) changes carries in
-    let homes = one_more (record { homes = g.homes; top = top; outer = [] }) es name k h more
-    (record { long = long; rise = carries.rise }) ends starts in
     record {
       frame = record { workspace = stays.frame.workspace; few = stays.frame.few; inside = stays.frame.inside };
       kept = (
@@ -86,8 +96,12 @@ new_names_are_carried g top more es env name k held h old new meets long ends st
             (sym (get_last g.homes h (length es) long)) (kept_there g (g.homes ++ h ∷ []) new h k held there),
         kept_before g h new es env (omega (arith, long)) stays.kept,
       );
-      rise = homes.rise;
-      room = room;
+      rise = rises_further words_held g.homes es name k h top more long carries.rise ends starts;
+      room = (
+        subst (λ (o : Option Home). IsInside g.words o k) (sym (get_last g.homes h (length es) long)) inside,
+        inside_before g.words g.homes h es (omega (arith, long)) stays.room,
+      );
+      counted = counted;
       tables = λ values reads fit. stays.tables values reads fit;
     }
 
@@ -105,9 +119,18 @@ zero_word m word count i less zeros =
     (zeros (word_place (word + i) + 2) (omega arith) (omega (arith, less)))
     (zeros (word_place (word + i) + 3) (omega arith) (omega (arith, less)))
 
+zero_number : (m : Memory) (word count i : ℕ) → i < count → AreZero m word count → HoldsWord m (word + i) (pos 0)
+zero_number m word count i less zeros = record {
+  is = zero_word m word count i less zeros;
+  bytes = λ j byte few there.
+      let zero_there = zeros (word_place (word + i) + j) (omega arith) (omega (arith, less, few)) in
+      let same : 0 ≡ byte = cc (zero_there, there) in
+      omega (arith, same);
+}
+
 pub zero_scalars_are_kept : ZeroScalarsAreKept
 zero_scalars_are_kept g word m kind type range zeros =
-    subst (λ (w : ℕ). Holds m w (pos 0)) (omega arith) (zero_word m word 1 0 (omega arith) zeros)
+    subst (λ (w : ℕ). HoldsWord m w (pos 0)) (omega arith) (zero_number m word 1 0 (omega arith) zeros)
 
 repeated : (size i : ℕ) (v : ℤ) → item_at i (replicate size (pos 0)) ≡ Some v → (pos 0 ≡ v) × (i < size)
 repeated zero i v is = absurd (cc)
@@ -118,11 +141,11 @@ zero_array_kept : (type : ValueType) (word size : ℕ) (m : Memory) → AreZero 
     → HoldsArray type m word (replicate size (pos 0))
 zero_array_kept value_type.Int word size m zeros = λ i v is.
     let same = repeated size i v is in
-    subst (Holds m (word + i)) same.0 (zero_word m word size i same.1 zeros)
+    subst (HoldsWord m (word + i)) same.0 (zero_number m word size i same.1 zeros)
 zero_array_kept value_type.Byte word size m zeros = λ i v is.
     let same = repeated size i v is in
     let less = same.1 in
-    (0, sym same.0, zeros (word_place word + i) (omega arith) (omega (arith, less)))
+    (0, sym same.0, zeros (word_place word + i) (omega arith) (omega (arith, less)), omega arith)
 
 pub zero_arrays_are_kept : ZeroArraysAreKept
 zero_arrays_are_kept g word size m kind type range zeros = zero_array_kept type word size m zeros

@@ -18,7 +18,7 @@ use Rattle.code_pieces.specs.Pieces.{counted, word_after}
 use Rattle.line_pieces.specs.Homes as home
 use Rattle.line_pieces.specs.Homes.{Home, Nowhere, Word, Block, Link, Passed, words_for}
 use Rattle.line_pieces.specs.Declarations.{Frame, with_words, with_home, with_names, home_for, words_in, channels_in}
-use Rattle.meant_lines.specs.Carrying.{start_of, end_of, words_of, Rise, HomesRise}
+use Rattle.meant_lines.specs.Carrying.{start_of, end_with, words_of, RiseWith, HomesRise}
 use Rattle.meant_lines.specs.Housing.{DeclaredHomesRise, BlocksRise, MoreWordsRise}
 
 -- ---- more words, and one name more
@@ -33,11 +33,11 @@ start_more (Some (home.Table values)) top more low = low
 start_more (Some (Passed w)) top more low = low
 
 pub more_words_rise : MoreWordsRise
-more_words_rise hs [] top more low rise = tt
-more_words_rise hs (e ∷ es) top more low rise =
+more_words_rise words hs [] top more low rise = tt
+more_words_rise words hs (e ∷ es) top more low rise =
     let h : Option Home = slice_get hs (length es) in (
       omega (arith, low, rise.0),
-      more_words_rise hs es (start_of h top) (start_of h more) (start_more h top more low) rise.1,
+      more_words_rise words hs es (start_of h top) (start_of h more) (start_more h top more low) rise.1,
     )
 
 pub get_before : (hs : List Home) (h : Home) (i : ℕ) → i < length hs → slice_get (hs ++ h ∷ []) i ≡ slice_get hs i
@@ -56,31 +56,35 @@ long_more [] h = refl
 long_more (x ∷ hs) h = ap suc (long_more hs h)
 
 -- the homes before one more stay
-rise_before : (hs : List Home) (h : Home) (es : List Entry) (top : ℕ) → length es ≤ length hs → Rise hs es top
-    → Rise (hs ++ h ∷ []) es top
-rise_before hs h [] top less rise = tt
-rise_before hs h (e ∷ es) top less rise =
+rise_before : (words : Meaning → ℕ) (hs : List Home) (h : Home) (es : List Entry) (top : ℕ) → length es ≤ length hs
+    → RiseWith words hs es top → RiseWith words (hs ++ h ∷ []) es top
+rise_before words hs h [] top less rise = tt
+rise_before words hs h (e ∷ es) top less rise =
     let same = get_before hs h (length es) (omega (arith, less)) in (
-      subst (λ (o : Option Home). end_of o e.meaning ≤ top) (sym same) rise.0,
-      subst (λ (o : Option Home). Rise (hs ++ h ∷ []) es (start_of o top)) (sym same)
-          (rise_before hs h es (start_of (slice_get hs (length es)) top) (omega (arith, less)) rise.1),
+      subst (λ (o : Option Home). end_with words o e.meaning ≤ top) (sym same) rise.0,
+      subst (λ (o : Option Home). RiseWith words (hs ++ h ∷ []) es (start_of o top)) (sym same)
+          (rise_before words hs h es (start_of (slice_get hs (length es)) top) (omega (arith, less)) rise.1),
     )
 
 -- a name more, whose home ends before the new top, and begins at the old one or later
-pub one_more : (f : Frame) (es : List Entry) (name : List ℕ) (k : Meaning) (h : Home) (top : ℕ) → HomesRise f es
-    → end_of (Some h) k ≤ top → f.top ≤ start_of (Some h) top
+pub rises_further : (words : Meaning → ℕ) (hs : List Home) (es : List Entry) (name : List ℕ) (k : Meaning) (h : Home)
+    (top more : ℕ) → length hs ≡ length es → RiseWith words hs es top → end_with words (Some h) k ≤ more
+    → top ≤ start_of (Some h) more → RiseWith words (hs ++ h ∷ []) (add name k es) more
+rises_further words hs es name k h top more long rise ends starts =
+    let last = get_last hs h (length es) long in (
+      subst (λ (o : Option Home). end_with words o k ≤ more) (sym last) ends,
+      subst (λ (o : Option Home). RiseWith words (hs ++ h ∷ []) es (start_of o more)) (sym last)
+          (rise_before words hs h es (start_of (Some h) more) (omega (arith, long))
+          (more_words_rise words hs es top (start_of (Some h) more) starts rise)),
+    )
+
+one_more : (f : Frame) (es : List Entry) (name : List ℕ) (k : Meaning) (h : Home) (top : ℕ) → HomesRise f es
+    → end_with words_of (Some h) k ≤ top → f.top ≤ start_of (Some h) top
     → HomesRise (record f { homes = f.homes ++ h ∷ []; top = top }) (add name k es)
-one_more f es name k h top homes ends starts =
-    let last = get_last f.homes h (length es) homes.long in
-    record {
-      long = long_more f.homes h ∙ ap suc homes.long;
-      rise = (
-        subst (λ (o : Option Home). end_of o k ≤ top) (sym last) ends,
-        subst (λ (o : Option Home). Rise (f.homes ++ h ∷ []) es (start_of o top)) (sym last)
-            (rise_before f.homes h es (start_of (Some h) top) (omega (arith, homes.long))
-            (more_words_rise f.homes es f.top (start_of (Some h) top) starts homes.rise)),
-      );
-    }
+one_more f es name k h top homes ends starts = record {
+  long = long_more f.homes h ∙ ap suc homes.long;
+  rise = rises_further words_of f.homes es name k h f.top top homes.long homes.rise ends starts;
+}
 
 -- ---- tops
 
@@ -92,7 +96,7 @@ pub after_counted : (top count : ℕ) → word_after top count ≤ GREATEST_WORD
 unfolding word_after counted
 after_counted top count = omega arith
 
-after_further : (top count : ℕ) → top ≤ GREATEST_WORD → top ≤ word_after top count
+pub after_further : (top count : ℕ) → top ≤ GREATEST_WORD → top ≤ word_after top count
 unfolding word_after counted
 after_further top count few = omega (arith, few)
 

@@ -17,7 +17,7 @@ use Rattle.meant_lines.specs.Carrying.{Ground, IsScalarKept, IsKeptThere, AreKep
 use Rattle.meant_lines.specs.Carrying.{Carries}
 use Rattle.meant_lines.specs.Opening.{BeginningsAreCarried, WordlessNamesAreCarried}
 use Rattle.meant_lines.specs.Opening.{BlocksAreCarried, OutermostAreCarried, OtherTurnsAreCarried}
-use Rattle.meant_lines.proofs.Carrying.{outer_words_stay, starts_before}
+use Rattle.meant_lines.proofs.Carrying.{outer_words_stay, starts_before, ends_inside}
 use Rattle.meant_lines.proofs.Declaring.{option_there, array_there, new_names_are_carried}
 use Rattle.meant_lines.proofs.Shapes.{same_kept}
 use Rattle.meant_lines.proofs.Words.{all_alike}
@@ -26,12 +26,12 @@ use Rattle.meant_lines.proofs.Words.{all_alike}
 
 pub beginnings_are_carried : BeginningsAreCarried
 beginnings_are_carried g m frame tables =
-    record { frame = frame; kept = tt; rise = tt; room = omega arith; tables = tables }
+    record { frame = frame; kept = tt; rise = tt; room = tt; counted = omega arith; tables = tables }
 
 pub wordless_names_are_carried : WordlessNamesAreCarried
 wordless_names_are_carried g top es env name k held h m meets long ends starts there carries =
     new_names_are_carried g top top es env name k held h m m meets long (omega (arith, ends)) (omega (arith, starts))
-    carries.room (all_alike top g.words m) there carries
+    carries.counted (ends_inside g.words (Some h) k (omega (arith, ends))) (all_alike top g.words m) there carries
 
 -- ---- homes behind others
 
@@ -82,7 +82,7 @@ module _ (g : Ground) (more : List Home) (m : Memory) where
       (outermost_by (nat_lt (length es) (length g.homes)) e es b bs refl kept (outermost_kept es bs kept.1))
 
 pub outermost_are_carried : OutermostAreCarried
-outermost_are_carried g more top inner es ds env m room rise same carries = record {
+outermost_are_carried g more top inner es ds env m counted room rise same carries = record {
   frame = record {
     workspace = carries.frame.workspace;
     few = carries.frame.few;
@@ -92,6 +92,7 @@ outermost_are_carried g more top inner es ds env m room rise same carries = reco
       (outermost_kept g more m es env carries.kept);
   rise = rise;
   room = room;
+  counted = counted;
   tables = λ values reads fit. carries.tables values reads fit;
 }
 
@@ -152,6 +153,7 @@ module _ (g : Ground) (word : ℕ) (m : Memory) (old new : ℕ → ℤ) (same : 
     kept = all_turned es env top low carries.rise carries.kept;
     rise = carries.rise;
     room = carries.room;
+    counted = carries.counted;
     tables = λ values reads fit. carries.tables values reads fit;
   }
 
@@ -180,5 +182,6 @@ blocks_are_carried g top head es env name kind type range i n old new meets long
     let other = turned g top new g.turns inside.turns (λ w less. sym (other_turns g top w n less)) top es env
     (omega arith) stays in
     new_names_are_carried inside top (top + 2) es env name (Scalar kind type range) (One i) (Block top head) new new
-    meets long (omega arith) (omega arith) room (all_alike top g.words new)
+    meets long (omega arith) (omega arith) (let few = carries.frame.few in omega (arith, room, few)) room
+    (all_alike top g.words new)
     (index, subst (Holds new (top + 1)) (sym (own_turns g top n)) turns) other

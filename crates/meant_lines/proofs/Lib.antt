@@ -1,6 +1,7 @@
 pub mod Words
 pub mod Instructions
 pub mod Carrying
+pub mod WrittenBytes
 pub mod Storing
 pub mod Pushing
 pub mod Operators

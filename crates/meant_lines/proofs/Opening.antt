@@ -1,16 +1,14 @@
 -- The code of a declaration leads to where memory carries the environment with its names.
-use Rattle.std.proofs.Common.{◌≡◌, ℕ, zero, suc, ◌+◌, ◌<◌, ◌≤◌, inl, ℤ, pos, Bool, true, false, cond, nat_eq, nat_lt}
-use Rattle.std.proofs.Common.{List, []}
+use Rattle.std.proofs.Common.{◌≡◌, ℕ, zero, suc, ◌+◌, ◌<◌, ◌≤◌, ℤ, pos, Bool, true, false, cond, nat_eq, List, []}
 use Rattle.std.proofs.Common.{◌∷◌, ◌++◌, length, map, Option, Some, None, FitsSigned, refl, sym, ap, subst, ◌∙◌, arith}
-use Rattle.std.specs.Prelude.{⊤, fold, replicate, int_le, unsigned_abs, unwrap_or, option_map, option_and_then, IfSome}
+use Rattle.std.specs.Prelude.{fold, replicate, int_le, unsigned_abs, unwrap_or, option_map, option_and_then, IfSome}
 use Rattle.std.specs.Int.{w32}
 use Rattle.std.specs.List.{AllByRecursion}
-use Rattle.std.proofs.lemmas.Bool.{ltb-true, ltb-false}
 use Rattle.std.proofs.lemmas.Int.{ints, clamps}
 use Rattle.std.proofs.lemmas.Option.{same_Some}
 use Rattle.module_format.specs.declared.limits.TheConstants.{MAX_DATA_WORDS}
 use Rattle.word_arithmetic.specs.Range.{Ends, InRange, constant}
-use Rattle.machine_state.specs.Memory.{Memory, byte_at}
+use Rattle.machine_state.specs.Memory.{Memory}
 use Rattle.occam_parser.specs.declared.tree.ValueType.{ValueType}
 use Rattle.occam_parser.specs.declared.tree.ValueType.TheVariants as value_type
 use Rattle.occam_parser.specs.Expressions.{Expression}
@@ -37,63 +35,34 @@ use Rattle.program_meaning.proofs.DeclarationsHold.{value_is_number}
 use Rattle.program_meaning.proofs.DeclarationsTyped.{declarations_typed}
 use Rattle.code_pieces.specs.Pieces.{Piece, counted, word_after}
 use Rattle.line_pieces.specs.Homes as home
-use Rattle.line_pieces.specs.Homes.{Home, Nowhere, Word, words_for}
+use Rattle.line_pieces.specs.Homes.{Home, Word, words_for}
 use Rattle.line_pieces.specs.Declarations.{Frame, with_words, with_names, home_for, item_values, words_in}
 use Rattle.line_pieces.specs.Declarations.{channels_in, zero_code, zero_names, declared}
 use Rattle.line_pieces.specs.Declarations.{declaration_code}
 use Rattle.placed_code.specs.StraightPieces as pieces
-use Rattle.placed_code.specs.StraightPieces.{LeadOn, done, word_place}
+use Rattle.placed_code.specs.StraightPieces.{LeadOn, done}
 use Rattle.placed_code.proofs.StraightPieces.{lead_both}
 use Rattle.meant_lines.specs.Words.{ChangesWithin}
-use Rattle.meant_lines.specs.Carrying.{Ground, HasTables, IsArrayKept, IsKept, words_of, start_of, end_of, HasFrame}
-use Rattle.meant_lines.specs.Carrying.{Carries}
+use Rattle.meant_lines.specs.Carrying.{Ground, HasTables, IsArrayKept, IsKept, words_held, start_of, end_of, IsInside}
+use Rattle.meant_lines.specs.Carrying.{HasFrame, Carries}
 use Rattle.meant_lines.specs.Pushing.{AllStandOn, IsCounted}
 use Rattle.meant_lines.specs.Zeroing.{AreZero}
-use Rattle.meant_lines.specs.Opening.{on_frame, HasZeros, Opened, DeclarationsAreCarried}
+use Rattle.meant_lines.specs.Opening.{on_frame, Opened, DeclarationsAreCarried}
+use Rattle.meant_lines.proofs.Carrying.{ends_inside}
 use Rattle.meant_lines.proofs.Declaring.{kept_there, new_names_are_carried, zero_scalars_are_kept, zero_arrays_are_kept}
-use Rattle.meant_lines.proofs.Housing.{long_more, whole_words, names_further, after_counted, variables_within}
-use Rattle.meant_lines.proofs.Housing.{channels_within}
+use Rattle.meant_lines.proofs.Housing.{long_more, whole_words, after_counted, after_further, variables_within}
 use Rattle.meant_lines.proofs.Operators.{first_stand, rest_stand, temporary_within}
 use Rattle.meant_lines.proofs.Words.{all_alike, changes_both, changes_wider}
 use Rattle.meant_lines.proofs.Zeroing.{scalars_are_zeroed, arrays_are_zeroed}
 
 -- ---- names one after another
 
--- words are 0, if they are those of variables
-abbrev AreZeroIf : Bool → Memory → (word count : ℕ) → Type 0
-AreZeroIf true m word count = AreZero m word count
-AreZeroIf false m word count = ⊤
-
-none_zero : (clear : Bool) (m : Memory) (word : ℕ) → AreZeroIf clear m word 0
-none_zero true m word = λ place low high. absurd (omega (arith, low, high))
-none_zero false m word = tt
-
--- words and those after them, which alone have changed since
-more_zero : (clear : Bool) (word count next more words : ℕ) (old new : Memory) → next ≡ word + count
-    → AreZeroIf clear old word count → ChangesWithin next words old new → AreZeroIf clear new next more
-    → AreZeroIf clear new word (count + more)
-more_zero false word count next more words old new same first changes rest = tt
-more_zero true word count next more words old new same first changes rest = λ place low high.
-    zero_by (nat_lt place (word_place next)) word count next more words old new same first changes rest place low high
-    refl
-  where
-    zero_by : (t : Bool) (word count next more words : ℕ) (old new : Memory) → next ≡ word + count
-        → AreZero old word count → ChangesWithin next words old new → AreZero new next more → (place : ℕ)
-        → word_place word ≤ place → place < word_place (word + (count + more)) → nat_lt place (word_place next) ≡ t
-        → byte_at new place ≡ Some 0
-    zero_by true word count next more words old new same first changes rest place low high test =
-        let less = ltb-true place (word_place next) test in
-        changes.bytes place (inl less) ∙ first place low (omega (arith, less, same))
-    zero_by false word count next more words old new same first changes rest place low high test =
-        rest place (ltb-false place (word_place next) test) (omega (arith, high, same))
-
 -- the code for one name leads to where its words have what it holds
-record IsSet (g : Ground) (clear : Bool) (k : Meaning) (held : Held) (word count : ℕ) (ps : List Piece)
-    (before : pieces.Held) : Type 0 where
+record IsSet (g : Ground) (k : Meaning) (held : Held) (word : ℕ) (ps : List Piece) (before : pieces.Held)
+    : Type 0 where
   after : pieces.Held
   leads : LeadOn g.footing ps before after
   changes : ChangesWithin word g.words before.memory after.memory
-  zeros : AreZeroIf clear after.memory word count
   kept : IsKept g after.memory (Word word) k held
 
 -- the code for each of these names
@@ -101,70 +70,48 @@ abbrev codes : (ℕ → List Piece) → ℕ → List (List ℕ) → ℕ → List
 codes code count [] word = []
 codes code count (name ∷ names) word = code word ++ codes code count names (word_after word count)
 
-record AreNamed (g : Ground) (clear : Bool) (start : ℕ) (f : Frame) (ps : List Piece) (es : List Entry)
-    (inner : Environment) (before : pieces.Held) : Type 0 where
+record AreNamed (g : Ground) (start : ℕ) (f : Frame) (ps : List Piece) (es : List Entry) (inner : Environment)
+    (before : pieces.Held) : Type 0 where
   after : pieces.Held
   leads : LeadOn g.footing ps before after
   carries : Carries (on_frame f g) f.top es inner after.memory
   changes : ChangesWithin start g.words before.memory after.memory
-  count : ℕ
-  ends : f.top ≡ start + count
-  zeros : AreZeroIf clear after.memory start count
 
 frame_of : (f : Frame) (g : Ground) (m : Memory) → HasFrame (on_frame f g) m → HasFrame g m
 frame_of f g m frame = record { workspace = frame.workspace; few = frame.few; inside = frame.inside }
 
-module _ (g : Ground) (clear : Bool) (k : Meaning) (held : Held) (count : ℕ) (code : ℕ → List Piece)
-    (is : IsHeld k held) (within : words_of k ≤ count)
-    (set : (word : ℕ) (h : pieces.Held) → HasFrame g h.memory → word ≤ g.words → AllStandOn g (code word)
-    → IsSet g clear k held word count (code word) h) where
+module _ (g : Ground) (k : Meaning) (held : Held) (count : ℕ) (code : ℕ → List Piece)
+    (is : IsHeld k held) (within : words_held k ≤ count)
+    (fits : (word : ℕ) → g.words ≤ MAX_DATA_WORDS → IsCounted word → AllStandOn g (code word)
+    → word_after word count ≤ g.words)
+    (set : (word : ℕ) (h : pieces.Held) → HasFrame g h.memory → IsCounted word → AllStandOn g (code word)
+    → IsSet g k held word (code word) h) where
   names_carried : (names : List (List ℕ)) (f : Frame) (es : List Entry) (env : Environment) (h : pieces.Held)
-      → Meets env es → length f.homes ≡ length es → (with_names count names f).top ≤ g.words
-      → AllStandOn g (codes code count names f.top) → Carries (on_frame f g) f.top es env h.memory
-      → AreNamed g clear f.top (with_names count names f) (codes code count names f.top) (add_all names k es)
+      → Meets env es → length f.homes ≡ length es → AllStandOn g (codes code count names f.top)
+      → Carries (on_frame f g) f.top es env h.memory
+      → AreNamed g f.top (with_names count names f) (codes code count names f.top) (add_all names k es)
       (bind_all names held env) h
-  names_carried [] f es env h meets long room stand carries = record {
-    after = h;
-    leads = done;
-    carries = carries;
-    changes = all_alike f.top g.words h.memory;
-    count = 0;
-    ends = omega arith;
-    zeros = none_zero clear h.memory f.top;
-  }
-  names_carried (name ∷ names) f es env h meets long room stand carries =
+  names_carried [] f es env h meets long stand carries =
+      record { after = h; leads = done; carries = carries; changes = all_alike f.top g.words h.memory }
+  names_carried (name ∷ names) f es env h meets long stand carries =
       let later : List Piece = codes code count names (word_after f.top count) in
-      let first = set f.top h (frame_of f g h.memory carries.frame) carries.room
-      (first_stand g (code f.top) later stand) in
-      let further = names_further count names (with_words count f) (after_counted f.top count) in
-      let few : word_after f.top count ≤ g.words = omega (arith, further, room) in
+      let here = first_stand g (code f.top) later stand in
+      let first = set f.top h (frame_of f g h.memory carries.frame) carries.counted here in
+      let few : word_after f.top count ≤ g.words = fits f.top carries.frame.few carries.counted here in
       let whole = whole_words f.top count (let most = carries.frame.few in omega (arith, few, most)) in
+      let ends : f.top + words_held k ≤ word_after f.top count = omega (arith, whole, within) in
       let next = new_names_are_carried (on_frame f g) f.top (word_after f.top count) es env name k held (Word f.top)
-      h.memory first.after.memory meets long (omega (arith, whole, within)) (omega arith) few first.changes
+      h.memory first.after.memory meets long ends (omega arith) (after_counted f.top count)
+      (ends_inside g.words (Some (Word f.top)) k (omega (arith, ends, few))) first.changes
       (kept_there g f.homes first.after.memory (Word f.top) k held first.kept) carries in
       let rest = names_carried names (with_words count f) (add name k es) (bind name held env) first.after
-      (refl, is, meets) (long_more f.homes (Word f.top) ∙ ap suc long) room (rest_stand g (code f.top) later stand)
-      next in
+      (refl, is, meets) (long_more f.homes (Word f.top) ∙ ap suc long) (rest_stand g (code f.top) later stand) next in
       record {
         after = rest.after;
         leads = lead_both first.leads rest.leads;
         carries = rest.carries;
         changes = changes_both first.changes (changes_wider (omega (arith, whole)) (omega arith) rest.changes);
-        count = count + rest.count;
-        ends = let ends = rest.ends in omega (arith, ends, whole);
-        zeros = more_zero clear f.top count (word_after f.top count) rest.count g.words first.after.memory
-            rest.after.memory whole first.zeros rest.changes rest.zeros;
       }
-
--- the words of names that are stored are in the frame
-names_within : (g : Ground) (count : ℕ) (code : ℕ → List Piece) → ((word : ℕ) → word ≤ g.words
-    → AllStandOn g (code word) → word_after word count ≤ g.words) → (names : List (List ℕ)) (f : Frame)
-    → f.top ≤ g.words → AllStandOn g (codes code count names f.top) → (with_names count names f).top ≤ g.words
-names_within g count code within [] f room stand = room
-names_within g count code within (name ∷ names) f room stand =
-    let later : List Piece = codes code count names (word_after f.top count) in
-    names_within g count code within names (with_words count f)
-    (within f.top room (first_stand g (code f.top) later stand)) (rest_stand g (code f.top) later stand)
 
 zero_codes : (size : Option Expression) (count : ℕ) (names : List (List ℕ)) (word : ℕ)
     → codes (λ w. zero_code size w count) count names word ≡ zero_names size count names word
@@ -172,23 +119,17 @@ zero_codes size count [] word = refl
 zero_codes size count (name ∷ names) word =
     ap (λ (ps : List Piece). zero_code size word count ++ ps) (zero_codes size count names (word_after word count))
 
-no_codes : (count : ℕ) (names : List (List ℕ)) (word : ℕ) → codes (λ w. []) count names word ≡ []
-no_codes count [] word = refl
-no_codes count (name ∷ names) word = no_codes count names (word_after word count)
-
 -- ---- variables
 
 scalar_set : (g : Ground) (type : ValueType) (range : Ends) (count word : ℕ) (h : pieces.Held) → HasFrame g h.memory
-    → word ≤ g.words → AllStandOn g (zero_code None word count)
-    → IsSet g true (entries.Scalar scalar.Variable type range) (One (pos 0)) word 1 (zero_code None word count) h
-scalar_set g type range count word h frame low stand =
-    let few : IsCounted word = let most = frame.few in omega (arith, low, most) in
+    → IsCounted word → AllStandOn g (zero_code None word count)
+    → IsSet g (entries.Scalar scalar.Variable type range) (One (pos 0)) word (zero_code None word count) h
+scalar_set g type range count word h frame few stand =
     let zeroed = scalars_are_zeroed g word h frame (temporary_within g.words word few stand.1.0) in
     record {
       after = zeroed.after;
       leads = zeroed.leads;
       changes = zeroed.changes;
-      zeros = zeroed.zeros;
       kept = zero_scalars_are_kept g word zeroed.after.memory scalar.Variable type range zeroed.zeros;
     }
 
@@ -199,31 +140,30 @@ unfolding counted word_after
 after_within words word count few is = omega (arith, few, is)
 
 array_set : (g : Ground) (type : ValueType) (range : Ends) (size : Expression) (n count word : ℕ) (h : pieces.Held)
-    → count ≡ words_for type n → 1 ≤ count → HasFrame g h.memory → word ≤ g.words
-    → AllStandOn g (zero_code (Some size) word count)
-    → IsSet g true (entries.Array array.Variable type (Some n) range) (Many (replicate n (pos 0))) word count
+    → count ≡ words_for type n → 1 ≤ count → HasFrame g h.memory → AllStandOn g (zero_code (Some size) word count)
+    → IsSet g (entries.Array array.Variable type (Some n) range) (Many (replicate n (pos 0))) word
     (zero_code (Some size) word count) h
-array_set g type range size n count word h same some frame low stand =
+array_set g type range size n count word h same some frame stand =
     let zeroed = arrays_are_zeroed g word count h frame some
     (after_within g.words word count frame.few stand.1.0) in
     record {
       after = zeroed.after;
       leads = zeroed.leads;
       changes = zeroed.changes;
-      zeros = zeroed.zeros;
       kept = zero_arrays_are_kept g word n zeroed.after.memory array.Variable type range
           (subst (AreZero zeroed.after.memory word) same zeroed.zeros);
     }
 
-scalar_within : (g : Ground) (count word : ℕ) → g.words ≤ MAX_DATA_WORDS → word ≤ g.words
+-- the words of a scalar and of an array are in the frame, since code stores there
+scalar_within : (g : Ground) (count word : ℕ) → g.words ≤ MAX_DATA_WORDS → IsCounted word
     → AllStandOn g (zero_code None word count) → word_after word 1 ≤ g.words
 unfolding counted word_after
 scalar_within g count word few low stand = let less = stand.1.0 in omega (arith, few, low, less)
 
-array_within : (g : Ground) (size : Expression) (count word : ℕ) → word ≤ g.words
+array_within : (g : Ground) (size : Expression) (count word : ℕ) → g.words ≤ MAX_DATA_WORDS → IsCounted word
     → AllStandOn g (zero_code (Some size) word count) → word_after word count ≤ g.words
 unfolding counted word_after
-array_within g size count word low stand = let less = stand.1.0 in omega (arith, less)
+array_within g size count word few low stand = let less = stand.1.0 in omega (arith, less)
 
 -- the size of an array, and what it holds
 record HasSize (es : List Entry) (size : Expression) (held : Held) : Type 0 where
@@ -280,7 +220,7 @@ module _ (g : Ground) (f : Frame) (es : List Entry) (env : Environment) (h : pie
   -- with the names of variables
   abbrev HaveVariables : ValueType → Option Expression → List (List ℕ) → Held → Type 0
   HaveVariables type size names held =
-      AreNamed g true f.top (with_names (words_in es type size) names f)
+      AreNamed g f.top (with_names (words_in es type size) names f)
       (zero_names size (words_in es type size) names f.top) (add_all names (variable_meaning es type size) es)
       (bind_all names held env) h
 
@@ -291,15 +231,13 @@ module _ (g : Ground) (f : Frame) (es : List Entry) (env : Environment) (h : pie
       let one : One (pos 0) ≡ held = same_Some (One (pos 0)) held set in
       let code = zero_codes None 1 names f.top in
       let k : Meaning = variable_meaning es type None in
-      let on = subst (AllStandOn g) (sym code) stand in
-      let room = names_within g 1 (λ w. zero_code None w 1)
-      (λ word low here. scalar_within g 1 word carries.frame.few low here) names f carries.room on in
       subst (HaveVariables type None names) one
-      (subst (λ (ps : List Piece). AreNamed g true f.top (with_names 1 names f) ps (add_all names k es)
+      (subst (λ (ps : List Piece). AreNamed g f.top (with_names 1 names f) ps (add_all names k es)
       (bind_all names (One (pos 0)) env) h) code
-      (names_carried g true k (One (pos 0)) 1 (λ w. zero_code None w 1)
+      (names_carried g k (One (pos 0)) 1 (λ w. zero_code None w 1)
       (record { from_lo = omega (arith, ints); to_hi = omega (arith, ints) }) (variables_within es type None)
-      (scalar_set g type (constant (pos 0)) 1) names f es env h holds.meets long room on carries))
+      (scalar_within g 1) (scalar_set g type (constant (pos 0)) 1) names f es env h holds.meets long
+      (subst (AllStandOn g) (sym code) stand) carries))
   variables_named type (Some size) names held known set stand =
       let sized = size_found es env type size held (value_as es types.Int size) (size_in es size) holds.meets refl refl
       known set in
@@ -311,48 +249,62 @@ module _ (g : Ground) (f : Frame) (es : List Entry) (env : Environment) (h : pie
       let means : entries.Array array.Variable type (Some n) (type_range type) ≡ variable_meaning es type (Some size) =
       ap (λ (o : Option ℕ). entries.Array array.Variable type o (type_range type)) (sym sized.is) in
       let code = zero_codes (Some size) count names f.top in
-      let on = subst (AllStandOn g) (sym code) stand in
-      let room = names_within g count (λ w. zero_code (Some size) w count)
-      (λ word low here. array_within g size count word low here) names f carries.room on in
       subst (HaveVariables type (Some size) names) (sym sized.holds)
-      (subst (λ (k : Meaning). AreNamed g true f.top (with_names count names f)
+      (subst (λ (k : Meaning). AreNamed g f.top (with_names count names f)
       (zero_names (Some size) count names f.top) (add_all names k es) (bind_all names zeros env) h) means
-      (subst (λ (ps : List Piece). AreNamed g true f.top (with_names count names f) ps
+      (subst (λ (ps : List Piece). AreNamed g f.top (with_names count names f) ps
       (add_all names (entries.Array array.Variable type (Some n) (type_range type)) es) (bind_all names zeros env) h)
       code
-      (names_carried g true (entries.Array array.Variable type (Some n) (type_range type)) zeros count
+      (names_carried g (entries.Array array.Variable type (Some n) (type_range type)) zeros count
       (λ w. zero_code (Some size) w count)
       (many_zeros n, all_zeros (InRange (type_range type)) n (zero_in type)) (omega (arith, words))
+      (array_within g size count)
       (λ word b frame low here. array_set g type (type_range type) size n count word b words
-      (subst (λ (c : ℕ). 1 ≤ c) (sym words) (some_words type n sized.some)) frame low here) names f es env h
-      holds.meets long room on carries)))
+      (subst (λ (c : ℕ). 1 ≤ c) (sym words) (some_words type n sized.some)) frame here) names f es env h
+      holds.meets long (subst (AllStandOn g) (sym code) stand) carries)))
 
-  -- ---- channels
+-- ---- channels
 
-  channel_set : (type : ValueType) (size : Option Expression) (word count : ℕ) (b : pieces.Held)
-      → IsSet g false (channel_meaning es type size) Nothing word count [] b
-  channel_set type None word count b =
-      record { after = b; leads = done; changes = all_alike word g.words b.memory; zeros = tt; kept = tt }
-  channel_set type (Some size) word count b =
-      record { after = b; leads = done; changes = all_alike word g.words b.memory; zeros = tt; kept = tt }
+module _ (g : Ground) (es : List Entry) (type : ValueType) (size : Option Expression) (m : Memory) where
+  abbrev channel : Meaning
+  channel = channel_meaning es type size
 
-  holds_nothing : (type : ValueType) (size : Option Expression) → IsHeld (channel_meaning es type size) Nothing
-  holds_nothing type None = tt
-  holds_nothing type (Some size) = tt
+  abbrev count_of : ℕ
+  count_of = channels_in es size
 
-  channels_named : (type : ValueType) (size : Option Expression) (names : List (List ℕ))
-      → (with_names (channels_in es size) names f).top ≤ g.words
-      → AreNamed g false f.top (with_names (channels_in es size) names f) []
-      (add_all names (channel_meaning es type size) es) (bind_all names Nothing env) h
-  channels_named type size names room =
-      let count : ℕ = channels_in es size in
-      let k : Meaning = channel_meaning es type size in
-      let code = no_codes count names f.top in
-      subst (λ (ps : List Piece). AreNamed g false f.top (with_names count names f) ps (add_all names k es)
-      (bind_all names Nothing env) h) code
-      (names_carried g false k Nothing count (λ w. []) (holds_nothing type size) (channels_within es type size)
-      (λ word b frame low on. channel_set type size word count b) names f es env h holds.meets long room
-      (subst (AllStandOn g) (sym code) tt) carries)
+  holds_nothing : (size : Option Expression) → IsHeld (channel_meaning es type size) Nothing
+  holds_nothing None = tt
+  holds_nothing (Some size) = tt
+
+  nothing_kept : (size : Option Expression) (homes : List Home) (word : ℕ)
+      → IsKept (record g { homes = homes }) m (Word word) (channel_meaning es type size) Nothing
+  nothing_kept None homes word = tt
+  nothing_kept (Some size) homes word = tt
+
+  channel_inside : (size : Option Expression) (word : ℕ)
+      → IsInside g.words (Some (Word word)) (channel_meaning es type size)
+  channel_inside None word = tt
+  channel_inside (Some size) word = tt
+
+  channel_ends : (size : Option Expression) (top more : ℕ) → top ≤ more
+      → end_of (Some (Word top)) (channel_meaning es type size) ≤ more
+  channel_ends None top more low = omega (arith, low)
+  channel_ends (Some size) top more low = omega (arith, low)
+
+  -- Memory carries their names at once, as they hold nothing.
+  channels_carried : (names : List (List ℕ)) (f : Frame) (outer : List Entry) (env : Environment) → Meets env outer
+      → length f.homes ≡ length outer → Carries (on_frame f g) f.top outer env m
+      → Carries (on_frame (with_names count_of names f) g) (with_names count_of names f).top
+      (add_all names channel outer) (bind_all names Nothing env) m
+  channels_carried [] f outer env meets long carries = carries
+  channels_carried (name ∷ names) f outer env meets long carries =
+      channels_carried names (with_words count_of f) (add name channel outer) (bind name Nothing env)
+      (refl, holds_nothing size, meets) (long_more f.homes (Word f.top) ∙ ap suc long)
+      (new_names_are_carried (on_frame f g) f.top (word_after f.top count_of) outer env name channel Nothing
+      (Word f.top) m m meets long
+      (channel_ends size f.top (word_after f.top count_of) (after_further f.top count_of carries.counted))
+      (omega arith) (after_counted f.top count_of) (channel_inside size f.top) (all_alike f.top g.words m)
+      (nothing_kept size f.homes f.top) carries)
 
 -- ---- constants
 
@@ -487,30 +439,33 @@ typed_inside : (o : Option Environment) (inner : Environment) (es : List Entry) 
     → IfSome o (λ (e : Environment). AreTyped e es) → AreTyped inner es
 typed_inside o inner es is typed = subst (λ (x : Option Environment). IfSome x (λ (e : Environment). AreTyped e es)) is typed
 
-opened : (g : Ground) (clear : Bool) (f : Frame) (es : List Entry) (d : Declaration) (env inner : Environment)
+opened : (g : Ground) (f : Frame) (es : List Entry) (d : Declaration) (env inner : Environment)
     (h : pieces.Held) → env ≡ inner
-    → (named : AreNamed g clear f.top (declared es d f) (declaration_code es d f.top) (add_declaration d es) env h)
-    → HasZeros d named.after.memory f.top (declared es d f).top → Opened g f es d inner h
-opened g clear f es d env inner h same named zeros = record {
+    → AreNamed g f.top (declared es d f) (declaration_code es d f.top) (add_declaration d es) env h
+    → Opened g f es d inner h
+opened g f es d env inner h same named = record {
   after = named.after;
   leads = named.leads;
   carries = subst (λ (e : Environment). Carries (on_frame (declared es d f) g) (declared es d f).top
       (add_declaration d es) e named.after.memory) same named.carries;
   changes = named.changes;
-  zeros = zeros;
 }
 
 pub declarations_are_carried : DeclarationsAreCarried
-declarations_are_carried g f es env inner (Variables n) h holds known words is long room stand carries =
+declarations_are_carried g f es env inner (Variables n) h holds known words is long stand carries =
     let bound = mapped (λ (held : Held). bind_all (as_list n.names) held env) (zero_for env n.size) inner is in
     let named = variables_named g f es env h holds long carries n.value_type n.size (as_list n.names) bound.0 known
     bound.1 stand in
-    opened g true f es (Variables n) (bind_all (as_list n.names) bound.0 env) inner h bound.2 named
-    (named.count, named.ends, named.zeros)
-declarations_are_carried g f es env inner (Channels n) h holds known words is long room stand carries =
-    opened g false f es (Channels n) (bind_all (as_list n.names) Nothing env) inner h (same_Some _ inner is)
-    (channels_named g f es env h holds long carries n.value_type n.size (as_list n.names) room) tt
-declarations_are_carried g f es env inner (Constants c) h holds known words is long room stand carries =
+    opened g f es (Variables n) (bind_all (as_list n.names) bound.0 env) inner h bound.2 named
+declarations_are_carried g f es env inner (Channels n) h holds known words is long stand carries =
+    opened g f es (Channels n) (bind_all (as_list n.names) Nothing env) inner h (same_Some _ inner is)
+    (record {
+      after = h;
+      leads = done;
+      carries = channels_carried g es n.value_type n.size h.memory (as_list n.names) f es env holds.meets long carries;
+      changes = all_alike f.top g.words h.memory;
+    })
+declarations_are_carried g f es env inner (Constants c) h holds known words is long stand carries =
     let bound = mapped (λ (held : Held). bind c.name held env) (held_by env c.value) inner is in
     let typed = typed_inside (declare (Constants c) env) inner (add_declaration (Constants c) es) is
     (declarations_typed es env (Constants c) holds.meets holds.typed known words) in
@@ -520,14 +475,12 @@ declarations_are_carried g f es env inner (Constants c) h holds known words is l
     let k : Meaning = constant_meaning es c.value_type c.value in
     let kept = constant_kept (on_frame f g) es env h.memory holds carries.tables c.value_type c.value bound.0 known
     bound.1 has.0 in
-    opened g false f es (Constants c) (bind c.name bound.0 env) inner h bound.2 (record {
+    opened g f es (Constants c) (bind c.name bound.0 env) inner h bound.2 (record {
       after = h;
       leads = done;
       carries = new_names_are_carried (on_frame f g) f.top f.top es env c.name k bound.0 place h.memory h.memory
           holds.meets long (home_ends es c.value_type c.value k f.top) (home_starts es c.value_type c.value f.top)
-          carries.room (all_alike f.top g.words h.memory) kept carries;
+          carries.counted (ends_inside g.words (Some place) k (home_ends es c.value_type c.value k g.words))
+          (all_alike f.top g.words h.memory) kept carries;
       changes = all_alike f.top g.words h.memory;
-      count = 0;
-      ends = omega arith;
-      zeros = tt;
-    }) tt
+    })

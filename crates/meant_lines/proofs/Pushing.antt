@@ -7,9 +7,9 @@ use Rattle.std.specs.Int.{w32}
 use Rattle.std.proofs.lemmas.Int.{ints, of_z-to_z}
 use Rattle.std.proofs.lemmas.Bool.{eqb-true}
 use Rattle.module_format.specs.declared.limits.TheConstants.{MAX_DATA_WORDS}
-use Rattle.word_arithmetic.specs.Range.{Ends, InRange, bytes}
+use Rattle.word_arithmetic.specs.Range.{Ends}
 use Rattle.machine_state.specs.LocalStep.{address, word_of}
-use Rattle.machine_state.specs.Memory.{Memory, place_of, local_address, byte_at, word_at, byte_worth}
+use Rattle.machine_state.specs.Memory.{Memory, place_of, local_address, byte_at, word_at}
 use Rattle.occam_parser.specs.declared.tree.ValueType.{ValueType}
 use Rattle.occam_parser.specs.declared.tree.ValueType.TheVariants as value_type
 use Rattle.scalar_ranges.specs.declared.scope.ScalarKind.{ScalarKind}
@@ -28,13 +28,13 @@ use Rattle.placed_code.specs.StraightPieces.{Footing, LeadOn, done, with_pushed,
 use Rattle.placed_code.proofs.StraightPieces.{lead_both}
 use Rattle.meant_lines.specs.Words.{IsInFrame, Holds}
 use Rattle.meant_lines.specs.Instructions.{with_a, with_result}
-use Rattle.meant_lines.specs.Carrying.{Ground, HoldsArray, HoldsTable, IsKeptThere, end_of, Carries}
+use Rattle.meant_lines.specs.Carrying.{Ground, HoldsArray, HoldsTable, IsKeptThere, IsInside, Carries}
 use Rattle.meant_lines.specs.Pushing.{Pushed}
 use Rattle.meant_lines.specs.PushingLaws.{ConstantsPush, ScalarsPush, IsArray, KnownWordsPush, WordsPush}
 use Rattle.meant_lines.specs.PushingLaws.{KnownBytesPush, BytesPush, KnownItemsPush, ItemsPush}
 use Rattle.meant_lines.proofs.Words.{all_alike, words_have_places, bytes_have_places}
 use Rattle.meant_lines.proofs.Words.{elements_have_addresses, addresses_read_back, addresses_move_twice}
-use Rattle.meant_lines.proofs.Carrying.{names_are_kept, homes_end_before, outer_words_stay, item_below}
+use Rattle.meant_lines.proofs.Carrying.{names_are_kept, homes_are_inside, outer_words_stay, item_below}
 use Rattle.meant_lines.proofs.Instructions.{constants_are_pushed, words_are_loaded, addresses_are_pushed}
 use Rattle.meant_lines.proofs.Instructions.{tables_are_pushed, distant_words_are_loaded, bytes_are_loaded}
 use Rattle.meant_lines.proofs.Instructions.{words_are_selected, bytes_are_selected}
@@ -58,26 +58,26 @@ constants_push g t leaf small v h =
 
 -- a word that lies in the frame
 word_pushes : (g : Ground) (top : ℕ) (es : List Entry) (env : Environment) (t word : ℕ) (leaf small : Bool) (v : ℤ)
-    (h : pieces.Held) → Carries g top es env h.memory → word < top → Holds h.memory word v
+    (h : pieces.Held) → Carries g top es env h.memory → word < g.words → Holds h.memory word v
     → Pushed g (loads word ∷ []) t leaf small v h
 word_pushes g top es env t word leaf small v h carries below is =
     one_push g (loads word ∷ []) t leaf small v h
     (words_are_loaded g.footing word v h carries.frame.workspace
-    (omega (arith, below, carries.room, carries.frame.few)) is)
+    (omega (arith, below, carries.frame.few)) is)
 
 -- ---- scalars
 
 scalar_pushes : (g : Ground) (top t : ℕ) (es : List Entry) (env : Environment) (o : Option Home) (kind : ScalarKind)
     (type : ValueType) (range : Ends) (reference leaf small : Bool) (v : ℤ) (h : pieces.Held)
-    → Carries g top es env h.memory → end_of o (Scalar kind type range) ≤ top
+    → Carries g top es env h.memory → IsInside g.words o (Scalar kind type range)
     → IsKeptThere g h.memory o (Scalar kind type range) (One v)
     → Pushed g (scalar_code reference o) t leaf small v h
 scalar_pushes g top t es env None kind type range reference leaf small v h carries ends kept = absurd kept
 scalar_pushes g top t es env (Some Nowhere) kind type range reference leaf small v h carries ends kept = absurd kept
 scalar_pushes g top t es env (Some (Word w)) kind type range true leaf small v h carries ends kept =
-    word_pushes g top es env t w leaf small v h carries (omega (arith, ends)) kept
+    word_pushes g top es env t w leaf small v h carries (omega (arith, ends)) kept.is
 scalar_pushes g top t es env (Some (Word w)) kind type range false leaf small v h carries ends kept =
-    word_pushes g top es env t w leaf small v h carries (omega (arith, ends)) kept
+    word_pushes g top es env t w leaf small v h carries (omega (arith, ends)) kept.is
 scalar_pushes g top t es env (Some (Block w head)) kind type range true leaf small v h carries ends kept =
     word_pushes g top es env t w leaf small v h carries (omega (arith, ends)) kept.0
 scalar_pushes g top t es env (Some (Block w head)) kind type range false leaf small v h carries ends kept =
@@ -92,7 +92,7 @@ pub scalars_push : ScalarsPush
 scalars_push g top t es env name kind type range reference leaf small v meets means holds h carries =
     let k : Meaning = Scalar kind type range in
     scalar_pushes g top t es env (home_of g.homes es name) kind type range reference leaf small v h carries
-    (homes_end_before g.homes es top name k carries.rise means)
+    (homes_are_inside g.words g.homes es name k carries.room means)
     (subst (λ (held : Held). IsKeptThere g h.memory (home_of g.homes es name) k held) holds
     (names_are_kept g h.memory es env name k meets carries.kept means))
 
@@ -111,19 +111,19 @@ array_kept g top es env name type h vs m array carries =
 -- its words end in the frame
 array_ends : (g : Ground) (top w : ℕ) (es : List Entry) (env : Environment) (name : List ℕ) (type : ValueType)
     (vs : List ℤ) (m : Memory) (array : IsArray g es env name type (Word w) vs) → Carries g top es env m
-    → w + words_for type (length vs) ≤ top
+    → w + words_for type (length vs) ≤ g.words
 array_ends g top w es env name type vs m array carries =
     by_size array.size array.means
     (subst (IsHeld (Array array.kind type array.size array.range)) array.holds
     (found_held name es env (Array array.kind type array.size array.range) array.meets array.means))
   where
     by_size : (size : Option ℕ) → meaning_in name es ≡ Some (Array array.kind type size array.range)
-        → IsHeld (Array array.kind type size array.range) (Many vs) → w + words_for type (length vs) ≤ top
+        → IsHeld (Array array.kind type size array.range) (Many vs) → w + words_for type (length vs) ≤ g.words
     by_size None means held = absurd held
     by_size (Some size) means held =
-        subst (λ (n : ℕ). w + words_for type n ≤ top) (sym held.0)
-        (subst (λ (o : Option Home). end_of o (Array array.kind type (Some size) array.range) ≤ top) array.at
-        (homes_end_before g.homes es top name (Array array.kind type (Some size) array.range) carries.rise means))
+        subst (λ (n : ℕ). w + words_for type n ≤ g.words) (sym held.0)
+        (subst (λ (o : Option Home). IsInside g.words o (Array array.kind type (Some size) array.range)) array.at
+        (homes_are_inside g.words g.homes es name (Array array.kind type (Some size) array.range) carries.room means))
 
 pub word_is : (word count : ℕ) → IsInFrame (word + count) → word_after word count ≡ word + count
 unfolding word_after counted
@@ -134,10 +134,10 @@ known_words_push g top t w es env name vs s leaf small (negsuc i) v array is h c
 known_words_push g top t w es env name vs s leaf small (pos i) v array is h carries =
     let ends = array_ends g top w es env name value_type.Int vs h.memory array carries in
     let less = item_below i vs v is in
-    let word : word_after w i ≡ w + i = word_is w i (omega (arith, ends, less, carries.room, carries.frame.few)) in
+    let word : word_after w i ≡ w + i = word_is w i (omega (arith, ends, less, carries.frame.few)) in
     subst (λ (n : ℕ). Pushed g (loads n ∷ []) t leaf small v h) (sym word)
     (word_pushes g top es env t (w + i) leaf small v h carries (omega (arith, ends, less))
-    (array_kept g top es env name value_type.Int (Word w) vs h.memory array carries i v is))
+    (array_kept g top es env name value_type.Int (Word w) vs h.memory array carries i v is).is)
 
 -- memory after the code of a subscript
 pub carries_after : (g : Ground) (top t : ℕ) (es : List Entry) (env : Environment) (ps : List Piece) (leaf small : Bool)
@@ -176,7 +176,7 @@ element_there m w limit vs (pos j) v ends few holds is =
     let less = item_below j vs v is in
     let inside : IsInFrame (w + j) = omega (arith, less, ends, few) in
     ap (λ (a : ℕ). word_at m (place_of a)) (elements_have_addresses w j inside)
-    ∙ ap (word_at m) (words_have_places (w + j) inside) ∙ holds j v is
+    ∙ ap (word_at m) (words_have_places (w + j) inside) ∙ (holds j v is).is
 
 has_some : (vs : List ℤ) (x v : ℤ) → item_of vs x ≡ Some v → 0 < length vs
 has_some vs (negsuc j) v is = absurd (cc)
@@ -190,8 +190,8 @@ words_push g top t w es env name vs s leaf small i v low array subs pushes h car
     let kept = carries_after g top t es env (before_offset s) leaf small i h array.meets low first carries in
     let ends = array_ends g top w es env name value_type.Int vs k.memory array kept in
     let some = has_some vs (i +ℤ or_zero s.offset) v subs.selects in
-    let inside : IsInFrame w = omega (arith, ends, some, kept.room, kept.frame.few) in
-    let there = element_there k.memory w g.words vs (i +ℤ or_zero s.offset) v (omega (arith, ends, kept.room))
+    let inside : IsInFrame w = omega (arith, ends, some, kept.frame.few) in
+    let there = element_there k.memory w g.words vs (i +ℤ or_zero s.offset) v (omega (arith, ends))
     kept.frame.few (array_kept g top es env name value_type.Int (Word w) vs k.memory array kept)
     subs.selects in
     record {
@@ -292,8 +292,8 @@ bytes_push g top t w es env name vs s leaf small (pos j) v low array is pushes h
       leads = subst (λ (ps : List Piece). LeadOn g.footing ps h (byte_selected g w j byte.0 k))
           (sym (append_assoc s.whole (points w ∷ operates BYTE_SUBSCRIPT ∷ []) (operates LOAD_BYTE ∷ [])))
           (lead_both first.leads
-          (byte_loaded g w j byte.0 k kept.frame.workspace (omega (arith, ends, kept.room, kept.frame.few, less))
-          (omega (arith, ends, kept.room, kept.frame.few, less)) first.a byte.2));
+          (byte_loaded g w j byte.0 k kept.frame.workspace (omega (arith, ends, kept.frame.few, less))
+          (omega (arith, ends, kept.frame.few, less)) first.a byte.2));
       a = sym byte.1;
       changes = first.changes;
       below = λ is. first.below is;
@@ -352,4 +352,4 @@ known_bytes_push g top t w es env name vs s small (pos n) v array is h carries =
     let byte = array_kept g top es env name value_type.Byte (Word w) vs h.memory array carries n v is in
     subst (λ (x : ℤ). Pushed g (element_of_words value_type.Byte w (Some (pos n)) s) t false small x h) (sym byte.1)
     (known_byte_by (nat_eq (n % 4) 0) g w n byte.0 h refl carries.frame.workspace
-    (omega (arith, ends, less, carries.room, carries.frame.few)) byte.2 t small)
+    (omega (arith, ends, less, carries.frame.few)) byte.2 t small)

@@ -10,7 +10,8 @@ use Rattle.scalar_ranges.specs.Narrowing.{with_range}
 use Rattle.scalar_ranges.specs.MoveLaws.{shape}
 use Rattle.line_pieces.specs.Homes as home
 use Rattle.line_pieces.specs.Homes.{Home, Nowhere, Word, Block, Link, Passed}
-use Rattle.meant_lines.specs.Carrying.{Ground, IsKeptThere, AreKept, words_of, start_of, end_of, Rise}
+use Rattle.meant_lines.specs.Carrying.{Ground, IsKeptThere, AreKept, words_held, start_of, end_of, Rise, IsInside}
+use Rattle.meant_lines.specs.Carrying.{AreInside}
 use Rattle.meant_lines.specs.CarryingLaws.{SameShapesCarry}
 
 -- a meaning whose range is not known
@@ -37,7 +38,7 @@ from_bare g m (Some h) (Channel type) held is = is
 from_bare g m (Some h) (Channels type size) held is = is
 from_bare g m (Some h) (Procedure number) held is = is
 
-words_bare : (k : Meaning) → words_of (bare k) ≡ words_of k
+words_bare : (k : Meaning) → words_held (bare k) ≡ words_held k
 words_bare (Scalar kind type range) = refl
 words_bare (Array kind type size range) = refl
 words_bare (Constant type value) = refl
@@ -48,11 +49,39 @@ words_bare (Procedure number) = refl
 end_bare : (o : Option Home) (j k : Meaning) → bare j ≡ bare k → end_of o j ≡ end_of o k
 end_bare None j k same = refl
 end_bare (Some Nowhere) j k same = refl
-end_bare (Some (Word w)) j k same = λ i. w + (sym (words_bare j) ∙ ap words_of same ∙ words_bare k) i
+end_bare (Some (Word w)) j k same = λ i. w + (sym (words_bare j) ∙ ap words_held same ∙ words_bare k) i
 end_bare (Some (Block w head)) j k same = refl
 end_bare (Some (Link number)) j k same = refl
 end_bare (Some (home.Table values)) j k same = refl
 end_bare (Some (Passed w)) j k same = refl
+
+to_bare_inside : (words : ℕ) (o : Option Home) (k : Meaning) → IsInside words o k → IsInside words o (bare k)
+to_bare_inside words None k inside = inside
+to_bare_inside words (Some Nowhere) k inside = inside
+to_bare_inside words (Some (Word w)) (Constant type value) inside = inside
+to_bare_inside words (Some (Word w)) (Scalar kind type range) inside = inside
+to_bare_inside words (Some (Word w)) (Array kind type size range) inside = inside
+to_bare_inside words (Some (Word w)) (Channel type) inside = tt
+to_bare_inside words (Some (Word w)) (Channels type size) inside = tt
+to_bare_inside words (Some (Word w)) (Procedure number) inside = inside
+to_bare_inside words (Some (Block w head)) k inside = inside
+to_bare_inside words (Some (Link number)) k inside = inside
+to_bare_inside words (Some (home.Table values)) k inside = inside
+to_bare_inside words (Some (Passed w)) k inside = inside
+
+from_bare_inside : (words : ℕ) (o : Option Home) (k : Meaning) → IsInside words o (bare k) → IsInside words o k
+from_bare_inside words None k inside = inside
+from_bare_inside words (Some Nowhere) k inside = inside
+from_bare_inside words (Some (Word w)) (Constant type value) inside = inside
+from_bare_inside words (Some (Word w)) (Scalar kind type range) inside = inside
+from_bare_inside words (Some (Word w)) (Array kind type size range) inside = inside
+from_bare_inside words (Some (Word w)) (Channel type) inside = tt
+from_bare_inside words (Some (Word w)) (Channels type size) inside = tt
+from_bare_inside words (Some (Word w)) (Procedure number) inside = inside
+from_bare_inside words (Some (Block w head)) k inside = inside
+from_bare_inside words (Some (Link number)) k inside = inside
+from_bare_inside words (Some (home.Table values)) k inside = inside
+from_bare_inside words (Some (Passed w)) k inside = inside
 
 heads : {A : Type 0} (x y : A) (xs ys : List A) → x ∷ xs ≡ y ∷ ys → x ≡ y
 heads x y xs ys same = cc
@@ -106,11 +135,28 @@ same_rise hs (e ∷ es) (d ∷ ds) top same rise =
           (same_rise hs es ds (start_of (slice_get hs (length es)) top) rest rise.1),
     )
 
+inside_bare : (words : ℕ) (o : Option Home) (j k : Meaning) → bare j ≡ bare k → IsInside words o j → IsInside words o k
+inside_bare words o j k same inside =
+    from_bare_inside words o k (subst (IsInside words o) same (to_bare_inside words o j inside))
+
+same_inside : (words : ℕ) (hs : List Home) (es ds : List Entry) → shape es ≡ shape ds → AreInside words hs es
+    → AreInside words hs ds
+same_inside words hs [] [] same inside = inside
+same_inside words hs [] (d ∷ ds) same inside = absurd (cc)
+same_inside words hs (e ∷ es) [] same inside = absurd (cc)
+same_inside words hs (e ∷ es) (d ∷ ds) same inside =
+    let rest = rest_same e d es ds same in (
+      inside_bare words (slice_get hs (length ds)) e.meaning d.meaning (first_same e d es ds same)
+          (subst (λ (n : ℕ). IsInside words (slice_get hs n) e.meaning) (as_many es ds rest) inside.0),
+      same_inside words hs es ds rest inside.1,
+    )
+
 pub same_shapes_carry : SameShapesCarry
 same_shapes_carry g top es ds env m same carries = record {
   frame = carries.frame;
   kept = same_kept g m es ds env same carries.kept;
   rise = same_rise g.homes es ds top same carries.rise;
-  room = carries.room;
+  room = same_inside g.words g.homes es ds same carries.room;
+  counted = carries.counted;
   tables = carries.tables;
 }

@@ -3,8 +3,9 @@ use Rattle.std.proofs.Common.{◌≡◌, ◌≢◌, ℕ, zero, suc, ◌+◌, ◌
 use Rattle.std.proofs.Common.{◌∷◌, length, Option, Some, None, FitsSigned, refl, sym, ap, subst, ◌∙◌, arith}
 use Rattle.std.specs.Prelude.{slice_get, option_and_then, option_map}
 use Rattle.std.specs.Int.{w32}
+use Rattle.std.proofs.lemmas.Bool.{cases_lt}
 use Rattle.machine_state.specs.Memory.{Memory, byte_at, with_byte}
-use Rattle.machine_state.proofs.Reading.{word_at-with_word, byte_at-with_byte, byte_at-with_byte_other}
+use Rattle.machine_state.proofs.Reading.{byte_at-with_byte, byte_at-with_byte_other}
 use Rattle.occam_parser.specs.declared.tree.ValueType.{ValueType}
 use Rattle.occam_parser.specs.declared.tree.ValueType.TheVariants as value_type
 use Rattle.word_arithmetic.specs.Range.{Ends}
@@ -17,11 +18,12 @@ use Rattle.scalar_ranges.proofs.Named.{meaning_found}
 use Rattle.program_meaning.specs.Storing.{item_set}
 use Rattle.line_pieces.specs.Homes.{Home, Word, home_of}
 use Rattle.placed_code.specs.StraightPieces.{word_place}
-use Rattle.meant_lines.specs.Words.{Holds, ChangesWithin, with_frame_word}
-use Rattle.meant_lines.specs.Carrying.{Ground, HoldsByte, HoldsArray, IsKeptThere, end_of, Carries}
+use Rattle.meant_lines.specs.Words.{ChangesWithin, with_frame_word}
+use Rattle.meant_lines.specs.Carrying.{Ground, HoldsByte, HoldsWord, HoldsArray, IsKeptThere, IsInside, Carries}
 use Rattle.meant_lines.specs.CarryingLaws.{IsPartOf, ScalarsAreCarried, ElementsAreCarried, BytesAreCarried}
-use Rattle.meant_lines.proofs.Words.{changes_writing, changes_with_byte, frame_words_read_back}
-use Rattle.meant_lines.proofs.Carrying.{names_are_kept, ends_before, one_name_changes}
+use Rattle.meant_lines.proofs.Words.{changes_writing, changes_with_byte}
+use Rattle.meant_lines.proofs.Carrying.{names_are_kept, homes_are_inside, number_stays, one_name_changes}
+use Rattle.meant_lines.proofs.WrittenBytes.{written_holds}
 
 -- ---- where a name is
 
@@ -79,24 +81,32 @@ set_or_kept zero v (x ∷ vs) ws j u is at =
 set_or_kept (suc i) v (x ∷ vs) ws j u is at =
     kept_by (item_set i v vs) i v x vs ws j u is at (λ rest j same at. set_or_kept i v vs rest j u same at)
 
+on_one_side : (a b : ℕ) → a ≢ b → (a < b) ⊎ (b + 1 ≤ a)
+on_one_side a b apart = by (cases_lt a b)
+  where
+    by : (a < b) ⊎ (b ≤ a) → (a < b) ⊎ (b + 1 ≤ a)
+    by (inl below) = inl below
+    by (inr above) = inr (omega (arith, apart, above))
+
 word_set : (m : Memory) (w i size : ℕ) (v : ℤ) (vs ws : List ℤ) → i < size → word_place (w + size) ≤ length m
     → FitsSigned w32 v → HoldsArray value_type.Int m w vs → item_set i v vs ≡ Some ws
     → HoldsArray value_type.Int (with_frame_word (w + i) v m) w ws
 word_set m w i size v vs ws less inside fits holds is = λ j u at. by j u (set_or_kept i v vs ws j u is at)
   where
-    by : (j : ℕ) (u : ℤ) → IsSetOrKept i v vs j u → Holds (with_frame_word (w + i) v m) (w + j) u
+    by : (j : ℕ) (u : ℤ) → IsSetOrKept i v vs j u → HoldsWord (with_frame_word (w + i) v m) (w + j) u
     by j u (inl same) =
-        subst (λ (x : ℤ). Holds (with_frame_word (w + i) v m) (w + j) x) (sym same.1)
-        (subst (λ (x : ℕ). Holds (with_frame_word (w + i) v m) (w + x) v) (sym same.0)
-        (word_at-with_word m (word_place (w + i)) v (omega (arith, less, inside)) fits))
+        subst (λ (x : ℤ). HoldsWord (with_frame_word (w + i) v m) (w + j) x) (sym same.1)
+        (subst (λ (x : ℕ). HoldsWord (with_frame_word (w + i) v m) (w + x) v) (sym same.0)
+        (written_holds m (w + i) v (omega (arith, less, inside)) fits))
     by j u (inr other) =
         let apart = other.0 in
-        frame_words_read_back.others m (w + i) (w + j) v (omega (arith, apart)) ∙ holds j u other.1
+        number_stays (changes_writing (w + i) (w + i + 1) (w + i) m v (omega arith) (omega arith)) (w + j) u
+        (on_one_side (w + j) (w + i) (omega (arith, apart))) (holds j u other.1)
 
-byte_set : (m : Memory) (w i size b : ℕ) (vs ws : List ℤ) → i < size
+byte_set : (m : Memory) (w i size b : ℕ) (vs ws : List ℤ) → b < 256 → i < size
     → word_place (w + (size + 3) / 4) ≤ length m → HoldsArray value_type.Byte m w vs
     → item_set i (pos b) vs ≡ Some ws → HoldsArray value_type.Byte (with_byte m (word_place w + i) (Some b)) w ws
-byte_set m w i size b vs ws less inside holds is = λ j u at. by j u (set_or_kept i (pos b) vs ws j u is at)
+byte_set m w i size b vs ws small less inside holds is = λ j u at. by j u (set_or_kept i (pos b) vs ws j u is at)
   where
     by : (j : ℕ) (u : ℤ) → IsSetOrKept i (pos b) vs j u
         → HoldsByte (with_byte m (word_place w + i) (Some b)) (word_place w + j) u
@@ -105,6 +115,7 @@ byte_set m w i size b vs ws less inside holds is = λ j u at. by j u (set_or_kep
       same.1,
       subst (λ (x : ℕ). byte_at (with_byte m (word_place w + i) (Some b)) (word_place w + x) ≡ Some b)
           (sym same.0) (byte_at-with_byte m (word_place w + i) (Some b) (omega (arith, less, inside))),
+      small,
     )
     by j u (inr other) =
         let apart = other.0 in
@@ -113,6 +124,7 @@ byte_set m w i size b vs ws less inside holds is = λ j u at. by j u (set_or_kep
           old.1,
           byte_at-with_byte_other m (word_place w + i) (word_place w + j) (Some b) (omega (arith, apart))
               ∙ old.2,
+          old.3,
         )
 
 -- ---- stores
@@ -120,14 +132,11 @@ byte_set m w i size b vs ws less inside holds is = λ j u at. by j u (set_or_kep
 module _ (g : Ground) (top n w : ℕ) (es : List Entry) (env : Environment) (name : List ℕ) (m : Memory)
     (meets : Meets env es) (number : number_in name es ≡ Some n) (at : home_of g.homes es name ≡ Some (Word w))
     (carries : Carries g top es env m) where
-  -- the home ends within the frame
-  ends_inside : (k : Meaning) → meaning_in name es ≡ Some k → end_of (Some (Word w)) k ≤ g.words
-  ends_inside k means =
-      let ends : end_of (slice_get g.homes n) k ≤ top =
-      ends_before g.homes es top n k carries.rise (means_at name n es k number means) in
-      let same : end_of (slice_get g.homes n) k ≡ end_of (Some (Word w)) k =
-      ap (λ (h : Option Home). end_of h k) (home_there g.homes name n es (Some (Word w)) number at) in
-      omega (arith, ends, same, carries.room)
+  -- the home is in the frame
+  home_within : (k : Meaning) → meaning_in name es ≡ Some k → IsInside g.words (Some (Word w)) k
+  home_within k means =
+      subst (λ (h : Option Home). IsInside g.words h k) at
+      (homes_are_inside g.words g.homes es name k carries.room means)
 
   changed : (k : Meaning) (held : Held) (first end : ℕ) (new : Memory) → meaning_in name es ≡ Some k
       → IsPartOf (Some (Word w)) k first end → ChangesWithin first end m new
@@ -158,7 +167,7 @@ module _ (g : Ground) (top n w : ℕ) (es : List Entry) (env : Environment) (nam
       let k : Meaning = Array kind value_type.Int (Some size) range in
       let below = set_below i v vs ws is in
       let less : i < size = omega (arith, below, long.0) in
-      let inside = ends_inside k means in
+      let inside = home_within k means in
       changed k (Many ws) w (w + size) (with_frame_word (w + i) v m) means (omega arith, omega arith)
       (changes_writing w (w + size) (w + i) m v (omega arith) (omega (arith, less)))
       (word_set m w i size v vs ws less (omega (arith, inside, carries.frame.inside)) fits
@@ -166,27 +175,27 @@ module _ (g : Ground) (top n w : ℕ) (es : List Entry) (env : Environment) (nam
 
   byte_stored : (i b : ℕ) (kind : ArrayKind) (size : Option ℕ) (range : Ends) (vs ws : List ℤ)
       → meaning_in name es ≡ Some (Array kind value_type.Byte size range) → held_in name env ≡ Many vs
-      → item_set i (pos b) vs ≡ Some ws → IsHeld (Array kind value_type.Byte size range) (Many vs)
+      → item_set i (pos b) vs ≡ Some ws → b < 256 → IsHeld (Array kind value_type.Byte size range) (Many vs)
       → Carries g top es (put n (Many ws) env) (with_byte m (word_place w + i) (Some b))
-  byte_stored i b kind None range vs ws means holds is long = absurd long
-  byte_stored i b kind (Some size) range vs ws means holds is long =
+  byte_stored i b kind None range vs ws means holds is small long = absurd long
+  byte_stored i b kind (Some size) range vs ws means holds is small long =
       let k : Meaning = Array kind value_type.Byte (Some size) range in
       let below = set_below i (pos b) vs ws is in
       let less : i < size = omega (arith, below, long.0) in
-      let inside = ends_inside k means in
+      let inside = home_within k means in
       changed k (Many ws) w (w + (size + 3) / 4) (with_byte m (word_place w + i) (Some b)) means
       (omega arith, omega arith)
       (changes_with_byte w (w + (size + 3) / 4) (word_place w + i) m (Some b) (omega arith) (omega (arith, less)))
-      (byte_set m w i size b vs ws less (omega (arith, inside, carries.frame.inside))
+      (byte_set m w i size b vs ws small less (omega (arith, inside, carries.frame.inside))
       (array_there kind value_type.Byte (Some size) range vs means holds) is)
 
 pub scalars_are_carried : ScalarsAreCarried
 scalars_are_carried g top n w es env name kind type range v m meets means number at fits carries =
-    let inside = ends_inside g top n w es env name m meets number at carries (Scalar kind type range) means in
+    let inside = home_within g top n w es env name m meets number at carries (Scalar kind type range) means in
     changed g top n w es env name m meets number at carries (Scalar kind type range) (One v) w (w + 1)
     (with_frame_word w v m) means (omega arith, omega arith)
     (changes_writing w (w + 1) w m v (omega arith) (omega arith))
-    (word_at-with_word m (word_place w) v (omega (arith, inside, carries.frame.inside)) fits)
+    (written_holds m w v (omega (arith, inside, carries.frame.inside)) fits)
 
 pub elements_are_carried : ElementsAreCarried
 elements_are_carried g top n w i es env name kind size range v vs ws m meets means number at holds is fits carries =
@@ -194,6 +203,6 @@ elements_are_carried g top n w i es env name kind size range v vs ws m meets mea
     (held_there g top n w es env name m meets number at carries (Array kind value_type.Int size range) vs means holds)
 
 pub bytes_are_carried : BytesAreCarried
-bytes_are_carried g top n w i b es env name kind size range vs ws m meets means number at holds is carries =
-    byte_stored g top n w es env name m meets number at carries i b kind size range vs ws means holds is
+bytes_are_carried g top n w i b es env name kind size range vs ws m meets means number at holds is small carries =
+    byte_stored g top n w es env name m meets number at carries i b kind size range vs ws means holds is small
     (held_there g top n w es env name m meets number at carries (Array kind value_type.Byte size range) vs means holds)

@@ -1,5 +1,5 @@
 -- What names hold is found in their homes, and memory carries the environment that a store leaves.
-use Rattle.std.specs.Prelude.{◌≡◌, ℕ, ◌+◌, ◌≤◌, ℤ, pos, FitsSigned, List, Option, Some, slice_get}
+use Rattle.std.specs.Prelude.{◌≡◌, ℕ, ◌+◌, ◌<◌, ◌≤◌, ℤ, pos, FitsSigned, List, Option, Some, slice_get}
 use Rattle.std.specs.Int.{w32}
 use Rattle.machine_state.specs.Memory.{Memory, with_byte}
 use Rattle.occam_parser.specs.declared.tree.ValueType.{ValueType}
@@ -14,7 +14,8 @@ use Rattle.program_meaning.specs.Storing.{element_set}
 use Rattle.line_pieces.specs.Homes.{Home, Word, Block, home_of}
 use Rattle.placed_code.specs.StraightPieces.{word_place}
 use Rattle.meant_lines.specs.Words.{ChangesWithin, with_frame_word}
-use Rattle.meant_lines.specs.Carrying.{Ground, IsKeptThere, AreKept, Rise, end_of, words_of, Carries}
+use Rattle.meant_lines.specs.Carrying.{Ground, IsKeptThere, AreKept, Rise, IsInside, AreInside, end_of, words_held}
+use Rattle.meant_lines.specs.Carrying.{Carries}
 
 -- what a name holds is in the home that code finds for it
 abbrev pub NamesAreKept : Type 0
@@ -26,6 +27,10 @@ abbrev pub HomesEndBefore : Type 0
 HomesEndBefore = (hs : List Home) (es : List Entry) (top : ℕ) (name : List ℕ) (k : Meaning) → Rise hs es top
     → meaning_in name es ≡ Some k → end_of (home_of hs es name) k ≤ top
 
+abbrev pub HomesAreInside : Type 0
+HomesAreInside = (words : ℕ) (hs : List Home) (es : List Entry) (name : List ℕ) (k : Meaning) → AreInside words hs es
+    → meaning_in name es ≡ Some k → IsInside words (home_of hs es name) k
+
 -- what code leaves from the first word on that is free
 abbrev pub OuterWordsStay : Type 0
 OuterWordsStay = (g : Ground) (top first end : ℕ) (es : List Entry) (env : Environment) (old new : Memory)
@@ -34,7 +39,7 @@ OuterWordsStay = (g : Ground) (top first end : ℕ) (es : List Entry) (env : Env
 
 -- these words are some of those of a home
 abbrev pub IsPartOf : Option Home → Meaning → (first end : ℕ) → Type 0
-IsPartOf (Some (Word w)) k first end = (w ≤ first) × (end ≤ w + words_of k)
+IsPartOf (Some (Word w)) k first end = (w ≤ first) × (end ≤ w + words_held k)
 IsPartOf (Some (Block w head)) k first end = (w ≤ first) × (end ≤ w + 2)
 IsPartOf h k first end = ⊥
 
@@ -68,7 +73,7 @@ BytesAreCarried = (g : Ground) (top n w i b : ℕ) (es : List Entry) (env : Envi
     (kind : ArrayKind) (size : Option ℕ) (range : Ends) (vs ws : List ℤ) (m : Memory) → Meets env es
     → meaning_in name es ≡ Some (Array kind value_type.Byte size range) → number_in name es ≡ Some n
     → home_of g.homes es name ≡ Some (Word w) → held_in name env ≡ Many vs → element_set (pos i) (pos b) vs ≡ Some ws
-    → Carries g top es env m
+    → b < 256 → Carries g top es env m
     → Carries g top es (put n (Many ws) env) (with_byte m (word_place w + i) (Some b))
 
 -- what is known of ranges does not matter

@@ -9,9 +9,10 @@ use Rattle.scalar_ranges.specs.Entries.{Meaning, Scalar, Array, Entry}
 use Rattle.scalar_ranges.specs.Environments.{Held, One, Many, Environment, Meets}
 use Rattle.program_uses.specs.Declaring.{add}
 use Rattle.program_meaning.specs.Storing.{bind}
+use Rattle.code_pieces.specs.declared.words.TheConstants.{GREATEST_WORD}
 use Rattle.line_pieces.specs.Homes.{Home, Word, words_for}
 use Rattle.meant_lines.specs.Words.{ChangesWithin}
-use Rattle.meant_lines.specs.Carrying.{Ground, IsKept, start_of, end_of, Carries}
+use Rattle.meant_lines.specs.Carrying.{Ground, IsKept, start_of, end_of, IsInside, Carries}
 use Rattle.meant_lines.specs.Zeroing.{AreZero}
 
 -- the home of one name more
@@ -22,8 +23,8 @@ with_home_there h g = record g { homes = g.homes ++ h ∷ [] }
 abbrev pub NewNamesAreCarried : Type 0
 NewNamesAreCarried = (g : Ground) (top more : ℕ) (es : List Entry) (env : Environment) (name : List ℕ) (k : Meaning)
     (held : Held) (h : Home) (old new : Memory) → Meets env es → length g.homes ≡ length es
-    → end_of (Some h) k ≤ more → top ≤ start_of (Some h) more → more ≤ g.words → ChangesWithin top g.words old new
-    → IsKept g new h k held → Carries g top es env old
+    → end_of (Some h) k ≤ more → top ≤ start_of (Some h) more → more ≤ GREATEST_WORD → IsInside g.words (Some h) k
+    → ChangesWithin top g.words old new → IsKept g new h k held → Carries g top es env old
     → Carries (with_home_there h g) more (add name k es) (bind name held env) new
 
 -- a word that is 0 is that of a scalar

@@ -6,7 +6,7 @@ use Rattle.scalar_ranges.specs.Entries.{Meaning, Entry}
 use Rattle.program_uses.specs.Declaring.{add, add_declaration}
 use Rattle.line_pieces.specs.Homes.{Home}
 use Rattle.line_pieces.specs.Declarations.{Frame, declared, with_block}
-use Rattle.meant_lines.specs.Carrying.{Rise, HomesRise}
+use Rattle.meant_lines.specs.Carrying.{RiseWith, HomesRise}
 
 -- Where homes rise, they rise with those of the declared names, if the frame is not too large.
 abbrev pub DeclaredHomesRise : Type 0
@@ -20,4 +20,5 @@ BlocksRise = (f : Frame) (es : List Entry) (name : List ℕ) (k : Meaning) (head
 
 -- and with a further word that is free
 abbrev pub MoreWordsRise : Type 0
-MoreWordsRise = (hs : List Home) (es : List Entry) (top more : ℕ) → top ≤ more → Rise hs es top → Rise hs es more
+MoreWordsRise = (words : Meaning → ℕ) (hs : List Home) (es : List Entry) (top more : ℕ) → top ≤ more
+    → RiseWith words hs es top → RiseWith words hs es more

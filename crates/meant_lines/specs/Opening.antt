@@ -1,8 +1,8 @@
 -- Memory carries an environment where a scope opens, and still where it is left.
-use Rattle.std.specs.Prelude.{◌≡◌, ⊤, ℕ, ◌+◌, ◌≤◌, ℤ, nat_eq, if◌then◌else◌, true, List, [], ◌∷◌, ◌++◌, length, Some}
+use Rattle.std.specs.Prelude.{◌≡◌, ℕ, ◌+◌, ◌≤◌, ℤ, nat_eq, if◌then◌else◌, true, List, [], ◌∷◌, ◌++◌, length, Some}
 use Rattle.machine_state.specs.Memory.{Memory}
 use Rattle.occam_parser.specs.declared.tree.ValueType.{ValueType}
-use Rattle.occam_parser.specs.Lines.{Declaration, Variables, Channels}
+use Rattle.occam_parser.specs.Lines.{Declaration}
 use Rattle.occam_parser.specs.Words.{declaration_has_words}
 use Rattle.scalar_ranges.specs.declared.scope.ScalarKind.{ScalarKind}
 use Rattle.scalar_ranges.specs.Entries.{Meaning, Scalar, Entry}
@@ -14,15 +14,16 @@ use Rattle.program_uses.specs.Declaring.{add, add_declaration}
 use Rattle.program_meaning.specs.Declarations.{IsKnownDeclaration}
 use Rattle.program_meaning.specs.GoingWell.{IsTrueIn}
 use Rattle.program_meaning.specs.Storing.{bind, declare}
+use Rattle.code_pieces.specs.declared.words.TheConstants.{GREATEST_WORD}
 use Rattle.line_pieces.specs.Homes.{Home, Block}
 use Rattle.line_pieces.specs.Declarations.{Frame, declared, declaration_code}
 use Rattle.placed_code.specs.StraightPieces as pieces
 use Rattle.placed_code.specs.StraightPieces.{LeadOn}
 use Rattle.meant_lines.specs.Words.{Holds, ChangesWithin}
-use Rattle.meant_lines.specs.Carrying.{Ground, HasTables, IsKept, start_of, end_of, Rise, HasFrame, Carries}
+use Rattle.meant_lines.specs.Carrying.{Ground, HasTables, IsKept, start_of, end_of, Rise, AreInside, HasFrame}
+use Rattle.meant_lines.specs.Carrying.{Carries}
 use Rattle.meant_lines.specs.Declaring.{with_home_there}
 use Rattle.meant_lines.specs.Pushing.{AllStandOn}
-use Rattle.meant_lines.specs.Zeroing.{AreZero}
 
 -- the same ground, with the homes of a frame
 abbrev pub on_frame : Frame → Ground → Ground
@@ -43,16 +44,6 @@ WordlessNamesAreCarried = (g : Ground) (top : ℕ) (es : List Entry) (env : Envi
 
 -- ---- declarations
 
--- The words of declared variables, which end there, are 0.
-abbrev pub HasZeros : Declaration → Memory → (first end : ℕ) → Type 0
-HasZeros (Variables n) m first end = (count : ℕ) × (end ≡ first + count) × AreZero m first count
-HasZeros d m first end = ⊤
-
--- The frame has the words of channels, which no code names.
-abbrev pub HasRoomFor : Declaration → (end words : ℕ) → Type 0
-HasRoomFor (Channels n) end words = end ≤ words
-HasRoomFor d end words = ⊤
-
 -- The code of a declaration leads to where memory carries the environment with its names. Words before them have not
 -- changed.
 pub record Opened (g : Ground) (f : Frame) (es : List Entry) (d : Declaration) (inner : Environment)
@@ -61,12 +52,11 @@ pub record Opened (g : Ground) (f : Frame) (es : List Entry) (d : Declaration) (
   pub leads : LeadOn g.footing (declaration_code es d f.top) before after
   pub carries : Carries (on_frame (declared es d f) g) (declared es d f).top (add_declaration d es) inner after.memory
   pub changes : ChangesWithin f.top g.words before.memory after.memory
-  pub zeros : HasZeros d after.memory f.top (declared es d f).top
 
 abbrev pub DeclarationsAreCarried : Type 0
 DeclarationsAreCarried = (g : Ground) (f : Frame) (es : List Entry) (env inner : Environment) (d : Declaration)
     (h : pieces.Held) → IsTrueIn es env → IsKnownDeclaration es d → declaration_has_words d ≡ true → declare d env ≡ Some inner
-    → length f.homes ≡ length es → HasRoomFor d (declared es d f).top g.words → AllStandOn g (declaration_code es d f.top)
+    → length f.homes ≡ length es → AllStandOn g (declaration_code es d f.top)
     → Carries (on_frame f g) f.top es env h.memory → Opened g f es d inner h
 
 -- ---- blocks of loops
@@ -91,7 +81,8 @@ BlocksAreCarried = (g : Ground) (top head : ℕ) (es : List Entry) (env : Enviro
 -- The outermost names are still carried where more homes are behind theirs, whatever is known of their ranges.
 abbrev pub OutermostAreCarried : Type 0
 OutermostAreCarried = (g : Ground) (more : List Home) (top inner : ℕ) (es ds : List Entry) (env : Environment)
-    (m : Memory) → top ≤ g.words → Rise g.homes ds top → shape (outermost (length g.homes) es) ≡ shape ds
+    (m : Memory) → top ≤ GREATEST_WORD → AreInside g.words g.homes ds → Rise g.homes ds top
+    → shape (outermost (length g.homes) es) ≡ shape ds
     → Carries (record g { homes = g.homes ++ more }) inner es env m
     → Carries g top ds (outermost (length g.homes) env) m
 

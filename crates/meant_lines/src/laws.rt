@@ -12,7 +12,7 @@ ghost use Rattle.meant_lines.specs.Instructions.{ConstantsAreAdded, ConstantsAre
 ghost use Rattle.meant_lines.specs.Instructions.{OperationsAreComputed, WordsAreShifted, OperandsNameOperations};
 ghost use Rattle.meant_lines.specs.Instructions.{WaitingIsPushedBelow, WordsAreMoved};
 ghost use Rattle.meant_lines.specs.CarryingLaws.{NamesAreKept, HomesEndBefore, OuterWordsStay, OneNameChanges};
-ghost use Rattle.meant_lines.specs.CarryingLaws.{SameShapesCarry};
+ghost use Rattle.meant_lines.specs.CarryingLaws.{HomesAreInside, SameShapesCarry};
 ghost use Rattle.meant_lines.specs.CarryingLaws.{ScalarsAreCarried, ElementsAreCarried, BytesAreCarried};
 ghost use Rattle.meant_lines.specs.PushingLaws.{ConstantsPush, ScalarsPush, KnownWordsPush, WordsPush};
 ghost use Rattle.meant_lines.specs.PushingLaws.{KnownBytesPush, BytesPush, KnownItemsPush, ItemsPush};
@@ -95,6 +95,7 @@ pub fn instructions_follow()
 pub fn names_are_carried()
     ensures kept { NamesAreKept }
     ensures before { HomesEndBefore }
+    ensures inside { HomesAreInside }
     ensures stays { OuterWordsStay }
     ensures changes { OneNameChanges }
     ensures shapes { SameShapesCarry }

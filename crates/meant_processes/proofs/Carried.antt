@@ -12,9 +12,10 @@ use Rattle.scalar_ranges.specs.Environments.{Environment, Held, Many, Meets, One
 use Rattle.scalar_ranges.specs.Moves.{outermost}
 use Rattle.program_uses.specs.Declaring.{add}
 use Rattle.program_meaning.specs.Storing.{bind}
+use Rattle.code_pieces.specs.declared.words.TheConstants.{GREATEST_WORD}
 use Rattle.line_pieces.specs.Homes as home
 use Rattle.line_pieces.specs.Homes.{Block, Home, Nowhere, Word}
-use Rattle.meant_lines.specs.Carrying.{AreKept, Carries, Ground, HasFrame, IsKeptThere, Rise, end_of}
+use Rattle.meant_lines.specs.Carrying.{AreInside, AreKept, Carries, Ground, HasFrame, IsKeptThere, Rise, end_of}
 use Rattle.meant_lines.specs.Carrying.{start_of}
 use Rattle.meant_lines.specs.Words.{Holds}
 use Rattle.meant_lines.proofs.Words.{all_alike}
@@ -92,15 +93,17 @@ module _ (p : Program) (homes others : List Home) (turns left : ℕ → ℤ) (m 
 pub scope_left : (p : Program) (homes others : List Home) (turns left : ℕ → ℤ) (m : Memory) (n top inner : ℕ)
     (es all : List Entry) (env : Environment) → outermost n all ≡ es
     → ((i : ℕ) → i < length es → slice_get others i ≡ slice_get homes i)
-    → ((w : ℕ) → w < top → turns w ≡ left w) → Rise others es top → top ≤ p.words
+    → ((w : ℕ) → w < top → turns w ≡ left w) → Rise others es top → AreInside p.words others es
+    → top ≤ GREATEST_WORD
     → Carries (ground p homes turns) inner all env m → Carries (ground p others left) top es (outermost n env) m
-scope_left p homes others turns left m n top inner es all env outer alike same rise room carries = record {
+scope_left p homes others turns left m n top inner es all env outer alike same rise room counted carries = record {
   frame = frame_there p homes others turns left m carries.frame;
   kept = all_kept p homes others turns left m es (outermost n env) top alike same rise
       (subst (λ (x : List Entry). AreKept (ground p homes turns) m x (outermost n env)) outer
       (kept_left n (ground p homes turns) m all env carries.kept));
   rise = rise;
   room = room;
+  counted = counted;
   tables = carries.tables;
 }
 
@@ -134,10 +137,12 @@ loop_opened p homes turns top head es env name indices v left m meets long room 
           (left_below top left turns) carries.rise carries.kept;
       rise = carries.rise;
       room = carries.room;
+      counted = carries.counted;
       tables = carries.tables;
     } in
     new_names_are_carried g top (top + 2) es env name (Scalar scalar.Index value_type.Int indices) (One v)
-    (Block top head) m m meets long (omega arith) (omega arith) room (all_alike top p.words m)
+    (Block top head) m m meets long (omega arith) (omega arith)
+    (let few = carries.frame.few in omega (arith, room, few)) room (all_alike top p.words m)
     (index, subst (Holds m (top + 1)) (sym (left_here top left turns)) count) again
 
 -- The index of an IF has no word.
@@ -148,4 +153,4 @@ pub index_opened : (p : Program) (homes : List Home) (turns : ℕ → ℤ) (top 
     (bind name (One v) env) m
 index_opened p homes turns top es env name value v m meets long carries =
     new_names_are_carried (ground p homes turns) top top es env name (Constant value_type.Int value) (One v) Nowhere m m
-    meets long (omega arith) (omega arith) carries.room (all_alike top p.words m) tt carries
+    meets long (omega arith) (omega arith) carries.counted (omega arith) (all_alike top p.words m) tt carries

@@ -13,7 +13,7 @@ conditions_push p none line e process s turns env holds reached there words few 
     let right = places_hold p.items (standing p) (AComponent (Chosen line e process)) s.known none reached in
     let checked = right.holds.1 in
     conditions_are_pushed (ground p s.frame.homes turns) s.frame.top s.frame.top s.known.entries env e holds
-    (record { holds = there.holds; free = omega arith; counted = omega (arith, few) })
+    (record { holds = there.holds; free = omega arith; counted = few })
     (record {
       range = right.holds.0;
       type_is = checked.type_is;

@@ -48,7 +48,6 @@ use Rattle.meant_lines.specs.Instructions.{with_a}
 use Rattle.meant_lines.specs.Words.{ChangesWithin}
 use Rattle.meant_lines.proofs.Carrying.{outer_words_stay}
 use Rattle.meant_lines.proofs.Instructions.{constants_are_added}
-use Rattle.meant_actions.proofs.Bytes.{bytes_stay}
 use Rattle.meant_processes.specs.Places.{AllFit, CarriedAt, FitsIn, IsPlaced, Program, ground, standing, surroundings}
 use Rattle.meant_processes.specs.Premises.{ConditionsPush}
 use Rattle.meant_processes.proofs.Behaving.{pieces_as}
@@ -107,7 +106,6 @@ pub carried_stays : (p : Program) (s : Site) (turns : ℕ → ℤ) (env : Enviro
 carried_stays p s turns env old new there changes x = record {
   carries = outer_words_stay (ground p s.frame.homes turns) s.frame.top s.frame.top p.words s.known.entries env old new
       there.holds.meets (omega arith) (omega arith) changes x.carries;
-  bytes = bytes_stay.free p.code.footing.depth s.frame.top p.words old new changes x.bytes;
 }
 
 module _ (p : Program) (none : BreaksNoRule p.items) (conditions : ConditionsPush p) where
@@ -121,10 +119,8 @@ module _ (p : Program) (none : BreaksNoRule p.items) (conditions : ConditionsPus
       ++ forgets (may_show s.known.entries e) (test_of s.known.entries e)) h after
       × ((address after.stack.a == 0) ≡ not holds) × ChangesWithin s.frame.top p.words h.memory after.memory
   shown line e q s turns env holds h reached there words truth_is fit carries =
-      let few = carries.carries.frame.few in
-      let room = carries.carries.room in
       let code = expression_code s.frame.homes s.known.entries s.frame.top e in
-      let pushes = conditions line e q s turns env holds reached there words (omega (arith, few, room)) truth_is in
+      let pushes = conditions line e q s turns env holds reached there words carries.carries.counted truth_is in
       let pushed = pushes fit h carries.carries in
       let f = forgotten p.code.footing (may_show s.known.entries e) (test_of s.known.entries e) pushed.after
       (subst (FitsSigned w32) (sym pushed.a) (truth_word holds)) in (

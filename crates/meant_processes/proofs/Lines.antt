@@ -1,5 +1,5 @@
 -- The code of the actions that are reached behaves, where each of them has what it needs.
-use Rattle.std.proofs.Common.{◌≡◌, ℕ, ◌+◌, ℤ, Bool, true, List, [], ◌∷◌, length, Some, refl, sym, subst, arith}
+use Rattle.std.proofs.Common.{◌≡◌, ℕ, ◌+◌, ℤ, Bool, true, List, [], ◌∷◌, length, Some, refl, sym, subst}
 use Rattle.occam_parser.specs.Lines.{Action, Assign, Input, Instance, Output, Skip, Stop}
 use Rattle.occam_parser.specs.Blocks.{Act, Does}
 use Rattle.occam_parser.specs.Words.{action_has_words}
@@ -73,12 +73,10 @@ action_behaves p none root first line action s turns env c reached there sequent
   behaves = λ at_row at to h lie inside begins.
       let es = s.known.entries in
       let g = ground p s.frame.homes turns in
-      let few = begins.carries.frame.few in
-      let room = begins.carries.room in
       let right = places_hold p.items (standing p) (AProcess first (Does line (Act action))) s.known none reached
       in
       let ready = checked_actions_are_ready g s.frame.top es env p.ports p.around.signatures action
-      (omega (arith, few, room))
+      begins.carries.counted
       (record {
         holds = there.holds;
         count = length p.around.signatures;
@@ -94,10 +92,9 @@ action_behaves p none root first line action s turns env c reached there sequent
         footing = refl;
         meets = there.holds.meets;
         carries = begins.carries;
-        bytes = begins.bytes;
       }) (roots_are_undisturbed g s.frame.top es root) ready is fit
       (action_lies p.code at_row at to s.frame es s.label action c is lie) inside)
-      (λ e q ends. over (ends.at, record { carries = ends.carries; bytes = ends.bytes }));
+      (λ e q ends. over (ends.at, record { carries = ends.carries }));
 }
 
 pub reached_lines_behave : ReachedLinesBehave

@@ -1,14 +1,15 @@
--- The channels in scope are main's links, and each is used the way of its name.
-use Rattle.std.proofs.Common.{◌≡◌, ℕ, ◌+◌, ◌&&◌, Bool, true, false, cond, List, [], ◌∷◌, length, Option}
-use Rattle.std.proofs.Common.{Some, None, Ok, refl, sym, ap, subst, ◌∙◌, arith}
+-- The channels in scope that may be used are main's links, and each is used the way of its name.
+use Rattle.std.proofs.Common.{◌≡◌, ℕ, ◌+◌, ◌≤◌, ◌⊎◌, inl, inr, ◌&&◌, ◌||◌, Bool, true, false, cond, nat_lt, List, []}
+use Rattle.std.proofs.Common.{◌∷◌, length, Option, Some, None, Ok, refl, sym, ap, subst, ◌∙◌, arith}
 use Rattle.std.specs.Prelude.{bytes_eq, nat_eq, option_and_then, slice_get, unwrap_or}
+use Rattle.std.proofs.lemmas.Bool.Decides.{nat_tests}
 use Rattle.std.proofs.lemmas.Bool.{and_parts}
 use Rattle.std.proofs.lemmas.Slice.Eq.{bytes_eq-Decides}
 use Rattle.word_arithmetic.specs.Range.{Ends, full}
 use Rattle.occam_parser.specs.declared.tree.ValueType.{ValueType}
 use Rattle.occam_parser.specs.Expressions.{Expression}
 use Rattle.occam_parser.specs.Lines as lines
-use Rattle.occam_parser.specs.Lines.{Channels, Constants, Declaration, Place, Value, Variables}
+use Rattle.occam_parser.specs.Lines.{Channels, Constants, Declaration, Value, Variables}
 use Rattle.occam_parser.specs.OneOrMore.{as_list}
 use Rattle.scalar_ranges.specs.declared.types.ExprType.{ExprType}
 use Rattle.scalar_ranges.specs.declared.scope.ArrayKind.TheVariants as array
@@ -22,13 +23,14 @@ use Rattle.program_uses.specs.declared.uses.Direction.{Direction}
 use Rattle.program_uses.specs.declared.uses.Direction.TheVariants as direction
 use Rattle.program_uses.specs.Constants.{size_in}
 use Rattle.program_uses.specs.Declaring.{add, add_all, add_declaration, constant_meaning, range_of_bytes, range_of_items}
-use Rattle.program_uses.specs.Declaring.{table_of, variable_meaning}
+use Rattle.program_uses.specs.Declaring.{table_of, variable_meaning, channel_meaning}
 use Rattle.program_uses.specs.LinkNames.{link_way}
 use Rattle.program_uses.specs.Places.{is_subscripted}
 use Rattle.program_uses.specs.Sets.{is_same_way}
 use Rattle.program_meaning.specs.Links.{Port}
 use Rattle.program_meaning.specs.Running.{facing}
 use Rattle.program_meaning.proofs.NumbersStored.{numbers_agree}
+use Rattle.usage_checks.specs.declared.channel_rules.Position.{Position}
 use Rattle.usage_checks.specs.ChannelRules.{is_inside, is_right_way, is_way}
 use Rattle.usage_checks.specs.PlaceRules.{channel_type}
 use Rattle.line_pieces.specs.Actions.{carried}
@@ -36,7 +38,6 @@ use Rattle.line_pieces.specs.Homes.{Link}
 use Rattle.code_generator.specs.Programs.{link_of}
 use Rattle.meant_lines.specs.Carrying.{Ground}
 use Rattle.meant_actions.specs.Exchanging.{IsPort, link_home}
-use Rattle.meant_processes.specs.Channels.{IsOfNoChannel}
 use Rattle.meant_processes.specs.Places.{AreLinked, IsLink, IsLinked, Program}
 
 -- ---- declarations
@@ -54,11 +55,32 @@ other_linked p n name (Channel type) other = absurd other
 other_linked p n name (entries.Channels type size) other = absurd other
 other_linked p n name m other = tt
 
-names_linked : (p : Program) (m : Meaning) (names : List (List ℕ)) (es : List Entry) → IsNoChannel m
+-- a channel that is declared in the process
+inner_number : (position : Position) (n : ℕ) → position.declared ≤ n → position.parallel ≤ n
+    → is_inside position n ≡ false
+inner_number position n declared alone =
+    let first : nat_lt n position.declared ≡ false = grind (arith, nat_tests, declared) in
+    let second : nat_lt n position.parallel ≡ false = grind (arith, nat_tests, alone) in
+    ap (λ b. b || nat_lt n position.parallel) first ∙ second
+
+channel_linked : (p : Program) (es : List Entry) (type : ValueType) (size : Option Expression) (n : ℕ)
+    (name : List ℕ) → is_inside p.position n ≡ false
+    → IsLinked p n name (with_range (λ r. full) (channel_meaning es type size))
+channel_linked p es type None n name inner = inr inner
+channel_linked p es type (Some e) n name inner = inner
+
+names_linked : (p : Program) (m : Meaning)
+    → ((n : ℕ) (name : List ℕ) → is_inside p.position n ≡ false → IsLinked p n name (with_range (λ r. full) m))
+    → (names : List (List ℕ)) (es : List Entry) → p.position.declared ≤ length es → p.position.parallel ≤ length es
     → AreLinked p (shape es) → AreLinked p (shape (add_all names m es))
-names_linked p m [] es other linked = linked
-names_linked p m (name ∷ names) es other linked =
-    names_linked p m names (add name m es) other (other_linked p (length (shape es)) name m other, linked)
+names_linked p m each [] es declared alone linked = linked
+names_linked p m each (name ∷ names) es declared alone linked =
+    let long = shape_long es in
+    names_linked p m each names (add name m es) (omega (arith, declared)) (omega (arith, alone)) (
+      each (length (shape es)) name
+          (inner_number p.position (length (shape es)) (omega (arith, declared, long)) (omega (arith, alone, long))),
+      linked,
+    )
 
 table_by : (t : Bool) (type : ValueType) (n : ℕ) (range : Ends) → IsNoChannel
     (cond t (Array array.Table type (Some n) range) (Array array.Table type None (type_range type)))
@@ -83,15 +105,19 @@ variable_other : (es : List Entry) (type : ValueType) (size : Option Expression)
 variable_other es type None = tt
 variable_other es type (Some e) = tt
 
-pub declared_linked : (p : Program) (es : List Entry) (d : Declaration) → IsOfNoChannel d → AreLinked p (shape es)
-    → AreLinked p (shape (add_declaration d es))
-declared_linked p es (Constants c) other linked =
-    names_linked p (constant_meaning es c.value_type c.value) (c.name ∷ []) es (constant_other es c.value_type c.value)
-    linked
-declared_linked p es (Variables n) other linked =
-    names_linked p (variable_meaning es n.value_type n.size) (as_list n.names) es
-    (variable_other es n.value_type n.size) linked
-declared_linked p es (Channels n) other linked = absurd other
+pub declared_linked : (p : Program) (es : List Entry) (d : Declaration) → p.position.declared ≤ length es
+    → p.position.parallel ≤ length es → AreLinked p (shape es) → AreLinked p (shape (add_declaration d es))
+declared_linked p es (Constants c) declared alone linked =
+    let m = constant_meaning es c.value_type c.value in
+    names_linked p m (λ n name inner. other_linked p n name m (constant_other es c.value_type c.value)) (c.name ∷ []) es
+    declared alone linked
+declared_linked p es (Variables n) declared alone linked =
+    let m = variable_meaning es n.value_type n.size in
+    names_linked p m (λ i name inner. other_linked p i name m (variable_other es n.value_type n.size)) (as_list n.names)
+    es declared alone linked
+declared_linked p es (Channels n) declared alone linked =
+    names_linked p (channel_meaning es n.value_type n.size) (channel_linked p es n.value_type n.size) (as_list n.names)
+    es declared alone linked
 
 -- ---- names
 
@@ -161,11 +187,10 @@ faces direction.Output port is = ap (λ (d : Direction). cond (is_same_way d dir
 link_port : (p : Program) (g : Ground) (es : List Entry) (env : Environment) (way : Direction) (name : List ℕ)
     (type : ValueType) → Meets env es
     → ((n : ℕ) (port : Port) → item_at n p.ports ≡ Some (Some port) → slice_get g.homes n ≡ Some (Link (link_of port)))
-    → meaning_in name es ≡ Some (Channel type) → (f : Found p es name (Channel type))
+    → meaning_in name es ≡ Some (Channel type) → (f : Found p es name (Channel type)) → IsLink p f.n name type
     → ((is_inside p.position f.n && is_right_way p.position name f.n way) ≡ false → ⊥)
     → (port : Port) × IsPort g es env p.ports way (record { name = name; subscript = None }) port
-link_port p g es env way name type meets homes means f right =
-    let x = f.linked in
+link_port p g es env way name type meets homes means f x right =
     let port = x.port in
     let way_same = way_is p f.n name way type x right in
     let held = numbers_agree name es env meets ∙ f.number in (
@@ -181,7 +206,11 @@ link_port p g es env way name type meets homes means f right =
       },
     )
 
--- So is the channel of an action that breaks no rule.
+-- another one is misused
+unusable : (p : Program) (n : ℕ) (b : Bool) → is_inside p.position n ≡ false → (is_inside p.position n && b) ≡ false
+unusable p n b inner = ap (λ t. t && b) inner
+
+-- So the channel of an action that breaks no rule is a port.
 pub channel_port : (p : Program) (g : Ground) (es : List Entry) (env : Environment) (way : Direction) (name : List ℕ)
     (subscript : Option Expression) (m : Option Meaning) (t : ExprType) → Meets env es
     → ((n : ℕ) (port : Port) → item_at n p.ports ≡ Some (Some port) → slice_get g.homes n ≡ Some (Link (link_of port)))
@@ -190,10 +219,16 @@ pub channel_port : (p : Program) (g : Ground) (es : List Entry) (env : Environme
     → (is_inside p.position n && is_right_way p.position name n way) ≡ false → ⊥)
     → (port : Port) × IsPort g es env p.ports way (record { name = name; subscript = subscript }) port
 channel_port p g es env way name None (Some (Channel type)) t meets homes linked means is right =
-    let f = found_linked p es name (Channel type) linked means in
-    link_port p g es env way name type meets homes means f (right f.n f.number)
+    let f = found_linked p es name (Channel type) linked means in by f f.linked
+  where
+    by : (f : Found p es name (Channel type)) → IsLink p f.n name type ⊎ (is_inside p.position f.n ≡ false)
+        → (port : Port) × IsPort g es env p.ports way (record { name = name; subscript = None }) port
+    by f (inl x) = link_port p g es env way name type meets homes means f x (right f.n f.number)
+    by f (inr inner) =
+        absurd (right f.n f.number (unusable p f.n (is_right_way p.position name f.n way) inner))
 channel_port p g es env way name (Some e) (Some (entries.Channels type size)) t meets homes linked means is right =
-    let f = found_linked p es name (entries.Channels type size) linked means in absurd f.linked
+    let f = found_linked p es name (entries.Channels type size) linked means in
+    absurd (right f.n f.number (unusable p f.n (is_right_way p.position name f.n way) f.linked))
 channel_port p g es env way name None None t meets homes linked means is right = absurd (cc is)
 channel_port p g es env way name (Some e) None t meets homes linked means is right = absurd (cc is)
 channel_port p g es env way name None (Some m) t meets homes linked means is right = absurd (cc is)

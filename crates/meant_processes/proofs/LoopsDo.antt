@@ -40,7 +40,7 @@ use Rattle.code_pieces.specs.declared.piece.RowEntry.{RowEntry}
 use Rattle.code_pieces.specs.Pieces.{Code, LoopBack, Row, counted, points, stores, word_after}
 use Rattle.line_pieces.specs.Homes.{Block, Home}
 use Rattle.code_generator.specs.Processes.{Site, in_loop, loop_start, process_code}
-use Rattle.placed_code.specs.StraightPieces.{Held as Registers, LeadOn, with_pushed, word_place}
+use Rattle.placed_code.specs.StraightPieces.{Held as Registers, LeadOn, with_pushed}
 use Rattle.meant_code.proofs.StraightLines.{loop_start_is}
 use Rattle.meant_lines.specs.Carrying.{AreKept, Carries, Ground, IsKeptThere}
 use Rattle.meant_lines.specs.Instructions.{with_memory, without_a}
@@ -50,8 +50,6 @@ use Rattle.meant_lines.proofs.Housing.{get_before, get_last}
 use Rattle.meant_lines.proofs.Instructions.{constants_are_pushed, then_leads, words_are_stored}
 use Rattle.meant_lines.proofs.Shapes.{same_shapes_carry}
 use Rattle.meant_lines.proofs.Words.{changes_both, changes_writing, frame_words_read_back}
-use Rattle.meant_actions.specs.Bytes.{HasBytes}
-use Rattle.meant_actions.proofs.Bytes.{bytes_stay}
 use Rattle.meant_processes.specs.Lying.{PiecesBehave}
 use Rattle.meant_processes.specs.Places.{AllFit, AreHoused, AreLinked, CarriedAt, IsPlaced, Program, ground, standing, surroundings}
 use Rattle.meant_processes.proofs.Behaving.{Led, pieces_well, straight_before}
@@ -115,7 +113,6 @@ module _ (p : Program) (none : BreaksNoRule p.items) (q : Process) (s : Site) (t
   abbrev pub In : ℕ → Environment → Memory → Type 0
   In k e m = CarriedAt p s turns e m × BlockHolds m s.frame.top (base +ℤ pos k) (pos (count - k))
       × IsTrueIn (widen ns s.known.entries) e × IndicesStay (shape s.known.entries) env e
-      × HasBytes p.code.footing.depth (s.frame.top + 2) m
 
   -- what is known of the loop
   pub record Loop : Type 0 where
@@ -155,11 +152,10 @@ module _ (p : Program) (none : BreaksNoRule p.items) (q : Process) (s : Site) (t
 
     carried_back : (e : Environment) (m : Memory)
         → Carries (ground p s.frame.homes turns) s.frame.top (widen ns s.known.entries) e m
-        → HasBytes p.code.footing.depth s.frame.top m → CarriedAt p s turns e m
-    carried_back e m carries bytes = record {
+        → CarriedAt p s turns e m
+    carried_back e m carries = record {
       carries = same_shapes_carry (ground p s.frame.homes turns) s.frame.top (widen ns s.known.entries) s.known.entries
           e m wide_alike carries;
-      bytes = bytes;
     }
 
     -- other words from the top on
@@ -169,7 +165,6 @@ module _ (p : Program) (none : BreaksNoRule p.items) (q : Process) (s : Site) (t
         carried_back e k
         (outer_words_stay (ground p s.frame.homes turns) s.frame.top s.frame.top p.words (widen ns s.known.entries) e m k
         holds.meets (omega arith) (omega arith) changes (carried_wide e m x))
-        (bytes_stay.free p.code.footing.depth s.frame.top p.words m k changes x.bytes)
 
     -- ---- a turn
 
@@ -193,6 +188,8 @@ module _ (p : Program) (none : BreaksNoRule p.items) (q : Process) (s : Site) (t
               (shape (widen ns s.known.entries)) (long ∙ sym wide_long ∙ sym (shape_long (widen ns s.known.entries))) tt
               (subst (AreHoused s.frame.homes) (sym wide_alike) x.there.housed);
           linked = (tt, subst (AreLinked p) (sym wide_alike) x.there.linked);
+          declared = let inner = x.there.declared in let same = wide_long in omega (arith, inner, same);
+          alone = let outer = x.there.alone in let same = wide_long in omega (arith, outer, same);
           low = omega arith;
           long = home_behind s.frame.homes (Block s.frame.top s.label) ∙ ap suc (long ∙ sym wide_long);
           holds = record {
@@ -234,27 +231,25 @@ module _ (p : Program) (none : BreaksNoRule p.items) (q : Process) (s : Site) (t
         let carried = scope_left p there homes left_turns turns m (length env) s.frame.top body_site.frame.top
         (widen ns s.known.entries) at_body.entries after cut
         (λ i low. sym (get_before homes (Block s.frame.top s.label) i (omega (arith, low, long, wide_long))))
-        (λ w low. sym (left_below s.frame.top (pos (count - k)) turns w low)) outer.rise outer.room left.0.carries in
+        (λ w low. sym (left_below s.frame.top (pos (count - k)) turns w low)) outer.rise outer.room outer.counted
+        left.0.carries in
         let block = index_words (ground p there left_turns) m name indices (widen ns s.known.entries) e after
         (base +ℤ pos k) s.frame.top s.label
         (get_last homes (Block s.frame.top s.label) (length (widen ns s.known.entries)) (long ∙ sym wide_long))
         left.0.carries.kept left.1 in
-        let bytes = subst (λ n. HasBytes p.code.footing.depth n m) top_is left.0.bytes in
         let stays = indices_left (length env) (shape at_body.entries) (with_index name base k e) after left.1 in
         let same : IndicesStay (shape s.known.entries) e (outermost (length env) after) =
         subst (λ old. IndicesStay (shape s.known.entries) old (outermost (length env) after))
         (all_but_one (length env) (record { name = name; held = One (base +ℤ pos k) }) e e_long)
         (subst (λ fs. IndicesStay fs (outermost (length env) (with_index name base k e)) (outermost (length env) after))
         (sym (shape_outermost (length env) at_body.entries) ∙ ap shape cut ∙ wide_alike) stays) in (
-          carried_back (outermost (length env) after) m carried
-              (bytes_stay.fewer p.code.footing.depth s.frame.top (s.frame.top + 2) m (omega arith) bytes),
+          carried_back (outermost (length env) after) m carried,
           record {
             index = block.index;
             count = subst (Holds m (s.frame.top + 1)) (left_here s.frame.top (pos (count - k)) turns) block.count;
           },
           true_again e after begins.2 ends,
           indices_then (shape s.known.entries) env e (outermost (length env) after) begins.3 same,
-          bytes,
         )
 
     turn_behaves : (k : ℕ) (e : Environment) (body : Code) → k < count
@@ -280,7 +275,6 @@ module _ (p : Program) (none : BreaksNoRule p.items) (q : Process) (s : Site) (t
           (record {
             carries = subst (λ top. Carries (ground p body_site.frame.homes left_turns) top at_body.entries inner h.memory)
                 (sym top_is) opened;
-            bytes = subst (λ top. HasBytes p.code.footing.depth top h.memory) (sym top_is) begins.4;
           });
     }
 
@@ -351,8 +345,6 @@ module _ (p : Program) (none : BreaksNoRule p.items) (q : Process) (s : Site) (t
               },
               out.2,
               out.3,
-              bytes_stay.word p.code.footing.depth (top + 2) (word_place top) (v +ℤ pos 1) first
-                  (bytes_stay.word p.code.footing.depth (top + 2) (word_place (top + 1)) (pos ((count - k) - 1)) m out.4),
             )
 
         behind : (k : ℕ) (e : Environment) (m : Memory) → suc k ≡ count → In k e m
@@ -403,10 +395,6 @@ module _ (p : Program) (none : BreaksNoRule p.items) (q : Process) (s : Site) (t
         (omega (arith, ints, few)) in
         let at_first : base +ℤ pos 0 ≡ base = omega (arith, ints) in
         let all_left : count ≡ count - 0 = omega arith in
-        let bytes_one = bytes_stay.next p.code.footing.depth top base m (omega (arith, has_first)) carries.bytes in
-        let bytes_both = bytes_stay.next p.code.footing.depth (top + 1) (pos count) second.memory
-        (omega (arith, has_second, size)) bytes_one in
-        let two : (top + 1) + 1 ≡ top + 2 = omega arith in
         record {
           after = fourth;
           leads = then_leads (constants_are_pushed w base h)
@@ -422,7 +410,6 @@ module _ (p : Program) (none : BreaksNoRule p.items) (q : Process) (s : Site) (t
             },
             wide_true,
             indices_here s env x.there,
-            subst (λ n. HasBytes p.code.footing.depth n fourth.memory) two bytes_both,
           );
         }
 

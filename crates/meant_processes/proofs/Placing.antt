@@ -4,18 +4,17 @@ use Rattle.std.proofs.Common.{Some, None, refl, sym, ap, subst, ◌∙◌, arith
 use Rattle.std.specs.List.{AllByRecursion}
 use Rattle.std.specs.Prelude.{option_map, slice_get}
 use Rattle.machine_state.specs.Memory.{Memory}
-use Rattle.module_format.specs.declared.limits.TheConstants.{MAX_DATA_WORDS}
 use Rattle.occam_parser.specs.Lines.{Channels, Constants, Declaration, Variables}
 use Rattle.occam_parser.specs.OneOrMore.{as_list}
 use Rattle.occam_parser.specs.Blocks.{Process}
 use Rattle.occam_parser.specs.Words.{declaration_has_words, process_has_words}
-use Rattle.scalar_ranges.specs.Entries.{Entry}
+use Rattle.scalar_ranges.specs.Entries.{Entry, Meaning}
 use Rattle.scalar_ranges.specs.Environments.{Environment, Held, Nothing}
 use Rattle.scalar_ranges.specs.MoveLaws.{meaning_at, shape}
 use Rattle.scalar_ranges.specs.Moves.{Known, begun_with, outermost}
 use Rattle.scalar_ranges.proofs.Found.{none_less}
 use Rattle.scalar_ranges.proofs.Nesting.{further_out, long_alike}
-use Rattle.program_uses.specs.Declaring.{add_declaration}
+use Rattle.program_uses.specs.Declaring.{add, add_all, add_declaration, channel_meaning, variable_meaning}
 use Rattle.program_meaning.specs.Doing.{doing}
 use Rattle.program_meaning.specs.GoingWell.{IsTrueIn}
 use Rattle.program_meaning.specs.Sequential.{IsSequential}
@@ -27,17 +26,13 @@ use Rattle.usage_checks.specs.ItemRules.{BreaksNoRule}
 use Rattle.usage_checks.specs.Reaching.{AProcess, Reaches}
 use Rattle.usage_checks.proofs.ProcessesGoWell.{Stands, declared_of_main, declared_true, processes_go_well}
 use Rattle.usage_checks.proofs.RangesStay.{declared_long}
-use Rattle.code_pieces.specs.declared.words.TheConstants.{GREATEST_WORD}
-use Rattle.code_pieces.specs.Pieces.{counted, word_after}
 use Rattle.line_pieces.specs.Homes as home
 use Rattle.line_pieces.specs.Homes.{Home}
 use Rattle.line_pieces.specs.Declarations.{Frame, channels_in, declared, home_for, with_names, with_words}
 use Rattle.line_pieces.specs.Declarations.{words_in}
 use Rattle.code_generator.specs.Processes.{Site, at_place, with_declaration}
-use Rattle.meant_lines.specs.Carrying.{HomesRise}
-use Rattle.meant_lines.proofs.Housing.{declared_homes_rise, get_before}
+use Rattle.meant_lines.proofs.Housing.{get_before}
 use Rattle.meant_lines.proofs.Shapes.{same_shapes_carry}
-use Rattle.meant_processes.specs.Channels.{IsOfNoChannel}
 use Rattle.meant_processes.specs.Places.{AreHoused, AreLinked, CarriedAt, IsOwn, IsPlaced, Program, ground, standing}
 use Rattle.meant_processes.proofs.Housed.{declared_housed}
 use Rattle.meant_processes.proofs.Linked.{declared_linked}
@@ -83,6 +78,8 @@ placed_alike p s k label env after placed same low holds = record {
   links = placed.links;
   housed = subst (AreHoused s.frame.homes) (sym same) placed.housed;
   linked = subst (AreLinked p) (sym same) placed.linked;
+  declared = subst (λ n. p.position.declared ≤ n) (sym (long_alike k.entries s.known.entries same)) placed.declared;
+  alone = subst (λ n. p.position.parallel ≤ n) (sym (long_alike k.entries s.known.entries same)) placed.alone;
   low = low;
   long = placed.long ∙ sym (long_alike k.entries s.known.entries same);
   holds = holds;
@@ -94,7 +91,6 @@ pub carried_alike : (p : Program) (s : Site) (k : Known) (label : ℕ) (turns : 
 carried_alike p s k label turns env m same x = record {
   carries = same_shapes_carry (ground p s.frame.homes turns) s.frame.top s.known.entries k.entries env m (sym same)
       x.carries;
-  bytes = x.bytes;
 }
 
 pub left_alike : (p : Program) (s : Site) (k : Known) (label : ℕ) (turns : ℕ → ℤ) (env after : Environment) (m : Memory)
@@ -104,7 +100,6 @@ left_alike p s k label turns env after m same left = (
   record {
     carries = same_shapes_carry (ground p s.frame.homes turns) s.frame.top k.entries s.known.entries after m same
         left.0.carries;
-    bytes = left.0.bytes;
   },
   subst (λ es. IndicesStay es env after) same left.1,
 )
@@ -135,30 +130,20 @@ declared_front es (Constants c) f i less = get_before f.homes (home_for es c.val
 declared_front es (Variables n) f i less = names_front (words_in es n.value_type n.size) (as_list n.names) f i less
 declared_front es (Channels n) f i less = names_front (channels_in es n.size) (as_list n.names) f i less
 
--- ---- tops
+names_long : (count : ℕ) (m : Meaning) (names : List (List ℕ)) (f : Frame) (es : List Entry)
+    → length f.homes ≡ length es → length (with_names count names f).homes ≡ length (add_all names m es)
+names_long count m [] f es long = long
+names_long count m (name ∷ names) f es long =
+    names_long count m names (with_words count f) (add name m es) (home_behind f.homes (home.Word f.top) ∙ ap suc long)
 
-after_counted : (top count : ℕ) → word_after top count ≤ GREATEST_WORD
-unfolding word_after counted
-after_counted top count = omega arith
-
-after_further : (top count : ℕ) → top ≤ GREATEST_WORD → top ≤ word_after top count
-unfolding word_after counted
-after_further top count few = omega (arith, few)
-
-names_further : (count : ℕ) (names : List (List ℕ)) (f : Frame) → f.top ≤ GREATEST_WORD
-    → f.top ≤ (with_names count names f).top
-names_further count [] f few = omega arith
-names_further count (name ∷ names) f few =
-    let here = after_further f.top count few in
-    let rest = names_further count names (with_words count f) (after_counted f.top count) in
-    omega (arith, here, rest)
-
--- A declaration takes words behind those that are taken.
-pub declared_further : (es : List Entry) (d : Declaration) (f : Frame) → f.top ≤ GREATEST_WORD
-    → f.top ≤ (declared es d f).top
-declared_further es (Constants c) f few = omega arith
-declared_further es (Variables n) f few = names_further (words_in es n.value_type n.size) (as_list n.names) f few
-declared_further es (Channels n) f few = names_further (channels_in es n.size) (as_list n.names) f few
+-- It gives a home to each of its names.
+declared_homes : (es : List Entry) (d : Declaration) (f : Frame) → length f.homes ≡ length es
+    → length (declared es d f).homes ≡ length (add_declaration d es)
+declared_homes es (Constants c) f long = home_behind f.homes (home_for es c.value_type c.value) ∙ ap suc long
+declared_homes es (Variables n) f long =
+    names_long (words_in es n.value_type n.size) (variable_meaning es n.value_type n.size) (as_list n.names) f es long
+declared_homes es (Channels n) f long =
+    names_long (channels_in es n.size) (channel_meaning es n.value_type n.size) (as_list n.names) f es long
 
 -- ---- what is declared
 
@@ -205,17 +190,17 @@ true_at None P inner all is = absurd all
 true_at (Some x) P inner all is = let same : x ≡ inner = cc is in subst P same all
 
 -- behind a declaration
-pub placed_behind : (p : Program) (s : Site) (d : Declaration) (env inner : Environment) → IsOfNoChannel d
-    → IsPlaced p s env
+pub placed_behind : (p : Program) (s : Site) (d : Declaration) (env inner : Environment) → IsPlaced p s env
     → DeclarationHolds s.known.entries d → declaration_has_words d ≡ true → declare d env ≡ Some inner
-    → HomesRise s.frame s.known.entries → (declared s.known.entries d s.frame).top ≤ MAX_DATA_WORDS
     → IsPlaced p (with_declaration d s) inner
-placed_behind p s d env inner other placed right words is rise few =
+placed_behind p s d env inner placed right words is =
     let es = s.known.entries in
     let main = declared_of_main (record { ports = p.ports; listens = [] }) es d
     (record { own = placed.own; ports = placed.channels }) in
     let longer = declared_long d es in
     let low = placed.low in
+    let outer = placed.declared in
+    let alone = placed.alone in
     record {
       counted = placed.counted;
       own = main.own;
@@ -223,9 +208,11 @@ placed_behind p s d env inner other placed right words is rise few =
       links = λ n port at.
           declared_front es d s.frame n (got_below s.frame.homes n _ (placed.links n port at)) ∙ placed.links n port at;
       housed = declared_housed es d s.frame placed.long placed.housed;
-      linked = declared_linked p es d other placed.linked;
+      linked = declared_linked p es d placed.declared placed.alone placed.linked;
+      declared = omega (arith, outer, longer);
+      alone = omega (arith, alone, longer);
       low = omega (arith, low, longer);
-      long = (declared_homes_rise s.frame es d rise few).long;
+      long = declared_homes es d s.frame placed.long;
       holds = true_at (declare d env) (IsTrueIn (add_declaration d es)) inner
           (declared_true es env d right words placed.holds) is;
     }

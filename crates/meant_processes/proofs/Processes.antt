@@ -4,7 +4,6 @@ use Rattle.occam_parser.specs.Blocks.{Guarded, NoComponent, One, Part, Plain, Pr
 use Rattle.usage_checks.specs.ItemRules.{BreaksNoRule}
 use Rattle.usage_checks.specs.Reaching.{process_of}
 use Rattle.meant_processes.specs.Places.{Program}
-use Rattle.meant_processes.specs.Channels.{DeclaresNoChannel, HasNoChannel, HaveNoChannel, PartHasNoChannel}
 use Rattle.meant_processes.specs.Premises.{LinesBehave}
 use Rattle.meant_processes.specs.ProcessesBehave.{ProcessesBehave}
 use Rattle.meant_processes.proofs.Behaving.{pieces_as}
@@ -18,32 +17,32 @@ use Rattle.meant_processes.proofs.Sequences.{declared_behaves}
 
 module _ (p : Program) (none : BreaksNoRule p.items) (lines : LinesBehave p) where
   mutual
-    process_does : (process : Process) → DeclaresNoChannel process → ProcessBehaves p process
-    process_does (Declared d q) other =
-        declared_behaves p none d q other.0 (declaration_opens p none d other.0) (process_does q other.1)
-    process_does (Does line c) other = record {
+    process_does : (process : Process) → ProcessBehaves p process
+    process_does (Declared d q) =
+        declared_behaves p none d q (declaration_opens p none d) (process_does q)
+    process_does (Does line c) = record {
       behaves = λ first s turns env code reached sequential words there is fit.
-          (construct_does c other).behaves first line s turns env code reached sequential words there is fit;
+          (construct_does c).behaves first line s turns env code reached sequential words there is fit;
     }
 
-    construct_does : (c : Construct) → HasNoChannel c → ConstructBehaves p c
-    construct_does (Act action) other = act_behaves p none action lines
-    construct_does (Block kind cs) other =
-        block_behaves p none (conditions_push p none) kind cs (components_do cs other)
-    construct_does (Replicated r (One kind c)) other =
-        repeated_behaves p none (conditions_push p none) r kind c (component_does c other)
+    construct_does : (c : Construct) → ConstructBehaves p c
+    construct_does (Act action) = act_behaves p none action lines
+    construct_does (Block kind cs) =
+        block_behaves p none (conditions_push p none) kind cs (components_do cs)
+    construct_does (Replicated r (One kind c)) =
+        repeated_behaves p none (conditions_push p none) r kind c (component_does c)
 
-    components_do : {part : Part} (cs : Components part) → HaveNoChannel cs → EachBehaves p cs
-    components_do NoComponent other = tt
-    components_do (Further cs c) other = (components_do cs other.0, component_does c other.1)
+    components_do : {part : Part} (cs : Components part) → EachBehaves p cs
+    components_do NoComponent = tt
+    components_do (Further cs c) = (components_do cs, component_does c)
 
-    component_does : {part : Part} (c : Component part) → PartHasNoChannel c → ProcessBehaves p (process_of c)
-    component_does (Plain q) other = process_does q other
-    component_does (Chosen line e q) other = process_does q other
-    component_does (Guarded line g q) other = process_does q other
+    component_does : {part : Part} (c : Component part) → ProcessBehaves p (process_of c)
+    component_does (Plain q) = process_does q
+    component_does (Chosen line e q) = process_does q
+    component_does (Guarded line g q) = process_does q
 
 pub processes_behave : ProcessesBehave
-processes_behave p process none sequential words other root first s turns env c reached there is fit =
+processes_behave p process none sequential words root first s turns env c reached there is fit =
     pieces_as p.code (λ m carries. carries) (λ e m left. left.0)
-    ((process_does p none (reached_lines_behave p none root) process other).behaves first s turns env c
+    ((process_does p none (reached_lines_behave p none root) process).behaves first s turns env c
     reached sequential words there is fit)

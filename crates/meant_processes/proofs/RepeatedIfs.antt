@@ -112,6 +112,14 @@ module _ (p : Program) (none : BreaksNoRule p.items) (conditions : ConditionsPus
             (there.long ∙ sym (long_alike start s.known.entries same) ∙ sym (shape_long start)) tt
             (subst (AreHoused s.frame.homes) (sym same) there.housed);
         linked = (tt, subst (AreLinked p) (sym same) there.linked);
+        declared =
+            let inner = there.declared in
+            let long = long_alike start s.known.entries same in
+            omega (arith, inner, long);
+        alone =
+            let outer = there.alone in
+            let long = long_alike start s.known.entries same in
+            omega (arith, outer, long);
         low = low;
         long = home_behind s.frame.homes Nowhere
             ∙ ap suc (there.long ∙ sym (long_alike start s.known.entries same));
@@ -126,7 +134,6 @@ module _ (p : Program) (none : BreaksNoRule p.items) (conditions : ConditionsPus
     carries = index_opened p s.frame.homes turns s.frame.top start env name o v m holds.meets
         (there.long ∙ sym (long_alike start s.known.entries same))
         (same_shapes_carry (ground p s.frame.homes turns) s.frame.top s.known.entries start env m (sym same) x.carries);
-    bytes = x.bytes;
   }
 
   turn_left : (o : Option ℤ) (v : ℤ) (start : List Entry) (blocks : List moves.Block) (m before : Memory)
@@ -148,12 +155,9 @@ module _ (p : Program) (none : BreaksNoRule p.items) (conditions : ConditionsPus
       let carried = scope_left p (s.frame.homes ++ Nowhere ∷ []) s.frame.homes turns turns m (length env) s.frame.top
       s.frame.top start k.entries x cut
       (λ i low. sym (get_before s.frame.homes Nowhere i (omega (arith, low, long, start_long)))) (λ w low. refl)
-      outer.rise outer.room left.0.carries in
+      outer.rise outer.room outer.counted left.0.carries in
       let stays = indices_left (length env) (shape k.entries) (bind name (One v) env) x left.1 in (
-        record {
-          carries = same_shapes_carry g s.frame.top start es (outermost (length env) x) m same carried;
-          bytes = left.0.bytes;
-        },
+        record { carries = same_shapes_carry g s.frame.top start es (outermost (length env) x) m same carried },
         subst (λ old. IndicesStay (shape es) old (outermost (length env) x))
             (all_but_one (length env) (record { name = name; held = One v }) env refl)
             (subst (λ fs. IndicesStay fs (outermost (length env) (bind name (One v) env)) (outermost (length env) x))

@@ -40,9 +40,7 @@ use Rattle.placed_code.proofs.PiecesGo.{straight_goes}
 use Rattle.placed_code.proofs.Behaves.{followed, steps_behave}
 use Rattle.meant_code.proofs.StraightLines.{declaration_is}
 use Rattle.meant_lines.specs.Carrying.{Carries}
-use Rattle.meant_actions.proofs.Bytes.{bytes_stay}
 use Rattle.meant_processes.specs.Lying.{LieApart, PiecesBehave}
-use Rattle.meant_processes.specs.Channels.{IsOfNoChannel}
 use Rattle.meant_processes.specs.Places.{AllFit, CarriedAt, FitsIn, IsPlaced, Program, ground, standing, surroundings}
 use Rattle.meant_processes.specs.Premises.{DeclarationOpens, LinesBehave}
 use Rattle.meant_processes.proofs.Behaving.{no_pieces, pieces_as, pieces_both, pieces_well}
@@ -51,7 +49,7 @@ use Rattle.meant_processes.proofs.CodeParts.{all_first, all_last, before_is, the
 use Rattle.meant_processes.proofs.Indices.{IndicesStay, action_leaves, indices_left, indices_same, indices_then}
 use Rattle.meant_processes.proofs.Indices.{shape_outermost}
 use Rattle.meant_processes.proofs.Lying.{apart_both, straight_lie}
-use Rattle.meant_processes.proofs.Placing.{Left, carried_alike, declared_front, declared_further, declared_out, left_alike, placed_alike}
+use Rattle.meant_processes.proofs.Placing.{Left, carried_alike, declared_front, declared_out, left_alike, placed_alike}
 use Rattle.meant_processes.proofs.Placing.{placed_behind, process_true}
 
 -- From each place that is reached, the code of a process behaves, and leaves indices as they were.
@@ -107,16 +105,13 @@ module _ (p : Program) (none : BreaksNoRule p.items) where
       let es = s.known.entries in
       let si = with_declaration d s in
       let same = as_long env es placed.holds.meets in
-      let homes = placed.long in
-      let further = declared_further es d s.frame
-      (let few = begins.carries.frame.few in let room = begins.carries.room in omega (arith, few, room)) in (
+      let homes = placed.long in (
         record {
           carries = subst (λ n. Carries (ground p s.frame.homes turns) s.frame.top es (outermost n e) m) (sym same)
               (scope_left p si.frame.homes s.frame.homes turns turns m (length es) s.frame.top si.frame.top es
               si.known.entries e (declared_behind d es)
               (λ i less. sym (declared_front es d s.frame i (omega (arith, less, homes)))) (λ w less. refl)
-              begins.carries.rise begins.carries.room left.0.carries);
-          bytes = bytes_stay.fewer p.code.footing.depth s.frame.top si.frame.top m further left.0.bytes;
+              begins.carries.rise begins.carries.room begins.carries.counted left.0.carries);
         },
         subst (λ old. IndicesStay (shape es) old (outermost (length env) e)) (declared_out d env inner declares)
             (subst (λ fs. IndicesStay fs (outermost (length env) inner) (outermost (length env) e))
@@ -125,9 +120,9 @@ module _ (p : Program) (none : BreaksNoRule p.items) where
             (indices_left (length env) (shape si.known.entries) inner e left.1)),
       )
 
-  pub declared_behaves : (d : Declaration) (q : Process) → IsOfNoChannel d → DeclarationOpens p d → ProcessBehaves p q
+  pub declared_behaves : (d : Declaration) (q : Process) → DeclarationOpens p d → ProcessBehaves p q
       → ProcessBehaves p (Declared d q)
-  declared_behaves d q other opens behaves = record {
+  declared_behaves d q opens behaves = record {
     behaves = λ first s turns env c reached sequential words placed is fit. record {
       behaves = λ at_row at to h lie inside_code begins.
           let es = s.known.entries in
@@ -143,9 +138,7 @@ module _ (p : Program) (none : BreaksNoRule p.items) where
           (λ inner declares.
           let o = opens first q s turns env inner h reached placed both.0 declares
           (all_first (FitsIn p) decl b.rest.pieces fits) begins in
-          let entered = placed_behind p s d env inner other placed right.holds both.0 declares
-          (record { long = placed.long; rise = begins.carries.rise })
-          (let few = o.carries.carries.frame.few in let room = o.carries.carries.room in omega (arith, few, room)) in
+          let entered = placed_behind p s d env inner placed right.holds both.0 declares in
           let run = behaves.behaves first si turns inner b.rest
           (behind (standing p) first d q s.known reached) sequential both.1 entered b.is
           (all_last (FitsIn p) decl b.rest.pieces fits) in

@@ -3,5 +3,4 @@ pub mod LyingInPrograms
 pub mod Places
 pub mod Premises
 pub mod Actions
-pub mod Channels
 pub mod ProcessesBehave

@@ -1,5 +1,7 @@
--- Where a process of a program stands: what is known there, what memory carries, and which pieces are those of the whole.
-use Rattle.std.specs.Prelude.{◌≡◌, ℕ, ◌<◌, ◌≤◌, true, ℤ, List, [], ◌∷◌, length, Option, Some, None, slice_get}
+-- Where a process of a program stands: what is known there, what memory carries, and which pieces are those of the
+-- whole.
+use Rattle.std.specs.Prelude.{◌≡◌, ℕ, ◌<◌, ◌≤◌, ◌⊎◌, true, false, ℤ, List, [], ◌∷◌, length, Option, Some, None}
+use Rattle.std.specs.Prelude.{slice_get}
 use Rattle.std.specs.List.{AllByRecursion}
 use Rattle.machine_state.specs.Memory.{Memory}
 use Rattle.occam_parser.specs.declared.tree.ValueType.{ValueType}
@@ -15,7 +17,7 @@ use Rattle.program_uses.specs.LinkNames.{link_way}
 use Rattle.program_meaning.specs.Links.{Port}
 use Rattle.program_meaning.specs.GoingWell.{IsTrueIn}
 use Rattle.usage_checks.specs.declared.channel_rules.Position.{Position}
-use Rattle.usage_checks.specs.ChannelRules.{is_formal_of_main}
+use Rattle.usage_checks.specs.ChannelRules.{is_formal_of_main, is_inside}
 use Rattle.usage_checks.specs.Reaching.{Standing}
 use Rattle.code_pieces.specs.Pieces.{Piece}
 use Rattle.line_pieces.specs.Homes.{Home, Link, Word}
@@ -24,7 +26,6 @@ use Rattle.code_generator.specs.Programs.{link_of}
 use Rattle.placed_code.specs.LaidCode.{LaidCode}
 use Rattle.meant_lines.specs.Carrying.{Ground, Carries}
 use Rattle.meant_lines.specs.Pushing.{StandsOn}
-use Rattle.meant_actions.specs.Bytes.{HasBytes}
 
 -- The items of a program, what is around the process and its position, the code of instances, the code that is laid out,
 -- with so many words in its frame and these pieces, and which declarations are links.
@@ -92,18 +93,20 @@ pub record IsLink (p : Program) (n : ℕ) (name : List ℕ) (type : ValueType) :
   pub link : port.link < 4
   pub formal : is_formal_of_main p.position n ≡ true
 
+-- A channel is a link, or one that is declared in the process, and with no PAR around it no action may use that.
 abbrev pub IsLinked : Program → ℕ → List ℕ → Meaning → Type 0
-IsLinked p n name (Channel type) = IsLink p n name type
-IsLinked p n name (Channels type size) = ⊥
+IsLinked p n name (Channel type) = IsLink p n name type ⊎ (is_inside p.position n ≡ false)
+IsLinked p n name (Channels type size) = is_inside p.position n ≡ false
 IsLinked p n name m = Unit {0}
 
--- all channels among these names are
+-- so is each channel among these names
 abbrev pub AreLinked : Program → List Entry → Type 0
 AreLinked p [] = Unit {0}
 AreLinked p (e ∷ es) = IsLinked p (length es) e.name e.meaning × AreLinked p es
 
 -- At a site what is known is true, names have the homes of their kinds, the ports are channels whose homes are their
--- links, and there are no other channels.
+-- links, and no other channel may be used. What is declared from here on is declared in the process, and no PAR is
+-- around it.
 pub record IsPlaced (p : Program) (s : Site) (env : Environment) : Type 0 where
   pub counted : p.around.uncounted ≡ None
   pub own : AllByRecursion (λ e. IsOwn e.meaning) (shape s.known.entries)
@@ -113,11 +116,12 @@ pub record IsPlaced (p : Program) (s : Site) (env : Environment) : Type 0 where
       → slice_get s.frame.homes n ≡ Some (Link (link_of port))
   pub housed : AreHoused s.frame.homes (shape s.known.entries)
   pub linked : AreLinked p (shape s.known.entries)
+  pub declared : p.position.declared ≤ length s.known.entries
+  pub alone : p.position.parallel ≤ length s.known.entries
   pub low : begun_with s.known.blocks ≤ length s.known.entries
   pub long : length s.frame.homes ≡ length s.known.entries
   pub holds : IsTrueIn s.known.entries env
 
--- Memory carries an environment of the site's scope, and has bytes where its names are.
+-- Memory carries an environment of the site's scope.
 pub record CarriedAt (p : Program) (s : Site) (turns : ℕ → ℤ) (env : Environment) (m : Memory) : Type 0 where
   pub carries : Carries (ground p s.frame.homes turns) s.frame.top s.known.entries env m
-  pub bytes : HasBytes p.code.footing.depth s.frame.top m

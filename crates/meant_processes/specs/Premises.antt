@@ -1,6 +1,5 @@
 -- What is asked of lines: that each action, each condition and each declaration that is reached does what it means.
-use Rattle.std.specs.Prelude.{◌≡◌, ◌≤◌, ℕ, ℤ, Bool, true, Some}
-use Rattle.module_format.specs.declared.limits.TheConstants.{MAX_DATA_WORDS}
+use Rattle.std.specs.Prelude.{◌≡◌, ℕ, ℤ, Bool, true, Some}
 use Rattle.word_arithmetic.specs.Word.{truth}
 use Rattle.occam_parser.specs.Expressions.{Expression}
 use Rattle.occam_parser.specs.Lines.{Action, Declaration}
@@ -16,7 +15,7 @@ use Rattle.line_pieces.specs.Declarations.{declaration_code}
 use Rattle.line_pieces.specs.Expressions.{expression_code, is_leaf, is_small}
 use Rattle.code_generator.specs.Processes.{Site, line_code, with_declaration}
 use Rattle.placed_code.specs.StraightPieces.{Held, LeadOn}
-use Rattle.meant_lines.specs.Pushing.{Pushes}
+use Rattle.meant_lines.specs.Pushing.{Pushes, IsCounted}
 use Rattle.meant_processes.specs.Lying.{PiecesBehave}
 use Rattle.meant_processes.specs.Places.{Program, surroundings, standing, ground, AllFit, IsPlaced, CarriedAt}
 
@@ -33,7 +32,7 @@ abbrev pub ConditionsPush : Program → Type 0
 ConditionsPush p = (line : ℕ) (e : Expression) (process : Process) (s : Site) (turns : ℕ → ℤ)
     (env : Environment) (holds : Bool)
     → Reaches p.items (standing p) (AComponent (Chosen line e process)) s.known → IsPlaced p s env
-    → has_words e ≡ true → s.frame.top ≤ MAX_DATA_WORDS → truth_of env e ≡ Some holds
+    → has_words e ≡ true → IsCounted s.frame.top → truth_of env e ≡ Some holds
     → Pushes (ground p s.frame.homes turns) s.frame.top s.known.entries env
     (expression_code s.frame.homes s.known.entries s.frame.top e) s.frame.top (is_leaf s.known.entries e)
     (is_small s.known.entries e) (truth holds)

@@ -11,7 +11,6 @@ use Rattle.code_pieces.specs.Pieces.{Code}
 use Rattle.code_generator.specs.Processes.{Site, process_code}
 use Rattle.meant_processes.specs.Lying.{PiecesBehave}
 use Rattle.meant_processes.specs.Places.{Program, surroundings, standing, AllFit, IsPlaced, CarriedAt}
-use Rattle.meant_processes.specs.Channels.{DeclaresNoChannel}
 
 -- From wherever its code lies among that of the program, where what is known is true and memory carries the
 -- environment, the process does what its meaning says, and memory carries what that leaves.
@@ -21,9 +20,7 @@ ProcessMeans p process = (first : ℕ) (s : Site) (turns : ℕ → ℤ) (env : E
     → process_code (surroundings p) process s ≡ Some c → AllFit p c.pieces
     → PiecesBehave p.code (CarriedAt p s turns env) c.pieces (CarriedAt p s turns) (doing p.ports process env)
 
--- So does each process of a program that breaks no rule, if it is sequential and declares no channel. Its code runs in the
--- root.
+-- So does each process of a program that breaks no rule, if it is sequential. Its code runs in the root.
 abbrev pub ProcessesBehave : Type 0
 ProcessesBehave = (p : Program) (process : Process) → BreaksNoRule p.items → IsSequential process
-    → process_has_words process ≡ true → DeclaresNoChannel process → p.code.footing.depth ≡ 0
-    → ProcessMeans p process
+    → process_has_words process ≡ true → p.code.footing.depth ≡ 0 → ProcessMeans p process

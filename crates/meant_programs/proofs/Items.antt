@@ -48,8 +48,6 @@ use Rattle.meant_programs.specs.Mains.{grounded, before_main, MainIsFound}
 use Rattle.meant_programs.specs.Mains.{IsFixed}
 use Rattle.meant_programs.proofs.MainPlaces.{all_own}
 use Rattle.scalar_ranges.specs.declared.scope.ArrayKind.TheVariants as array
-use Rattle.meant_processes.specs.Channels.{DeclaresNoChannel}
-use Rattle.meant_programs.specs.Mains.{MainDeclaresNoChannel}
 use Rattle.meant_programs.proofs.Globals.{IsGlobal}
 use Rattle.meant_programs.proofs.Globals.{Before, weighed_before, item_after, procedure_leaves, last_of}
 use Rattle.meant_programs.proofs.Globals.{last_is_main, globals_own}
@@ -116,8 +114,8 @@ module _ (footing : Footing) (words : ℕ) (whole : List Piece) (m : Memory) whe
       → Carried (with_home Nowhere f) (add name (entries.Procedure n) es) (bind name Nothing env)
   procedure_carried f es env name n meets before = record {
     carries = new_names_are_carried (grounded footing words whole f.homes) f.top f.top es env name (entries.Procedure n)
-        Nothing Nowhere m m meets before.long (omega arith) (omega arith) before.carries.room
-        (same_memory m m f.top words refl) tt before.carries;
+        Nothing Nowhere m m meets before.long (omega arith) (omega arith) before.carries.counted
+        (omega arith) (same_memory m m f.top words refl) tt before.carries;
     long = let added = length-append f.homes (Nowhere ∷ []) in let same = before.long in omega (arith, added, same);
     top = before.top;
   }
@@ -131,7 +129,7 @@ module _ (footing : Footing) (words : ℕ) (whole : List Piece) (m : Memory) whe
       let d = lines.Constants c in
       let opened : Opened (grounded footing words whole f.homes) f es d inner held =
       declarations_are_carried (grounded footing words whole f.homes) f es env inner d held holds
-      (known_declaration es d known) has_words declares before.long tt tt before.carries in
+      (known_declaration es d known) has_words declares before.long tt before.carries in
       record {
         carries = subst (λ (h : pieces.Held). Carries (grounded footing words whole (declared es d f).homes)
             (declared es d f).top (add_declaration d es) inner h.memory)
@@ -151,7 +149,6 @@ module _ (footing : Footing) (words : ℕ) (whole : List Piece) (m : Memory) whe
       pub comes : (o : Outside) (x : ProgramItem) → Comes o x (item ∷ rest) before → Comes o x items outermost
       pub main : is_main (last_of item rest) ≡ true
       pub sequential : IsSequentialProgram (item ∷ rest)
-      pub no_channel : MainDeclaresNoChannel (item ∷ rest)
       pub has_words : items_have_words (item ∷ rest) ≡ true
       pub truth : Before before env
       pub carried : Carried f before.known.entries env
@@ -173,7 +170,6 @@ module _ (footing : Footing) (words : ℕ) (whole : List Piece) (m : Memory) whe
       pub named : is_main_name procedure.head.name ≡ true
       pub links : are_links procedure.head.formals ≡ true
       pub sequential : IsSequential procedure.body
-      pub no_channel : DeclaresNoChannel procedure.body
       pub has_words : process_has_words procedure.body ≡ true
 
     last_found_here : (before : Outside) (p : Procedure) (env : Environment) (cs : List Callee) (f : Frame) (code : Code)
@@ -196,7 +192,6 @@ module _ (footing : Footing) (words : ℕ) (whole : List Piece) (m : Memory) whe
           named = (and_parts (is_main_name p.head.name) (are_links p.head.formals) stands.main).0;
           links = (and_parts (is_main_name p.head.name) (are_links p.head.formals) stands.main).1;
           sequential = stands.sequential;
-          no_channel = stands.no_channel;
           has_words = (and_parts (list_all formal_has_words p.head.formals) (process_has_words p.body)
               (and_parts (item_has_words item) (list_all item_has_words []) stands.has_words).0).1;
         }
@@ -205,11 +200,6 @@ module _ (footing : Footing) (words : ℕ) (whole : List Piece) (m : Memory) whe
         → IsSequentialProgram (next ∷ rest)
     further_sequential (GlobalConstant c) next rest sequential = sequential
     further_sequential (GlobalProcedure p) next rest sequential = sequential
-
-    further_apart : (item next : ProgramItem) (rest : List ProgramItem) → MainDeclaresNoChannel (item ∷ next ∷ rest)
-        → MainDeclaresNoChannel (next ∷ rest)
-    further_apart (GlobalConstant c) next rest apart = apart
-    further_apart (GlobalProcedure p) next rest apart = apart
 
     -- what memory carries after an item
     after_carried : (item : ProgramItem) (o : Outside) (f : Frame) (env inner : Environment)
@@ -241,7 +231,6 @@ module _ (footing : Footing) (words : ℕ) (whole : List Piece) (m : Memory) whe
           comes = λ o x later. stands.comes o x (inr later);
           main = stands.main;
           sequential = further_sequential item next rest stands.sequential;
-          no_channel = further_apart item next rest stands.no_channel;
           has_words = both.1;
           truth = truth;
           carried = subst (λ (g : Frame). Carried g (after_item item before).known.entries inner)
@@ -269,7 +258,6 @@ module _ (footing : Footing) (words : ℕ) (whole : List Piece) (m : Memory) whe
       named = found.named;
       links = found.links;
       sequential = found.sequential;
-      no_channel = found.no_channel;
       has_words = found.has_words;
     }
 
@@ -291,15 +279,14 @@ module _ (footing : Footing) (words : ℕ) (whole : List Piece) (m : Memory) whe
         (stands_next before item next rest f env inner stands declares after) is))
 
 pub main_is_found : MainIsFound
-main_is_found [] code footing words whole m none sequential apart has_words is carries = absurd sequential
-main_is_found (item ∷ rest) code footing words whole m none sequential apart has_words is carries =
+main_is_found [] code footing words whole m none sequential has_words is carries = absurd sequential
+main_is_found (item ∷ rest) code footing words whole m none sequential has_words is carries =
     let items = item ∷ rest in
     let found = find footing words whole m items none outermost item rest [] [] no_frame code (record {
       unbroken = λ f x. none f (inl x);
       comes = λ o x h. h;
       main = last_is_main item rest none;
       sequential = sequential;
-      no_channel = apart;
       has_words = has_words;
       truth = record { holds = record { meets = tt; typed = tt }; global = tt; blocks = refl; counted = refl };
       carried = record { carries = carries; long = refl; top = refl };
@@ -325,6 +312,5 @@ main_is_found (item ∷ rest) code footing words whole m none sequential apart h
       named = found.named;
       links = found.links;
       sequential = found.sequential;
-      no_channel = found.no_channel;
       has_words = found.has_words;
     }

@@ -1,12 +1,11 @@
--- The memory of a loaded module of pieces carries no names where a program begins, and has bytes there.
-use Rattle.std.proofs.Common.{◌≡◌, ℕ, ◌*◌, ◌<◌, ◌≤◌, List, [], ◌++◌, length, get_or, sym}
-use Rattle.std.proofs.Common.{arith, ◌∙◌}
+-- The memory of a loaded module of pieces carries no names where a program begins.
+use Rattle.std.proofs.Common.{ℕ, ◌*◌, ◌≤◌, List, [], ◌++◌, length, arith}
 use Rattle.std.specs.Prelude.{replicate}
-use Rattle.std.proofs.lemmas.List.{get_or_append_left, get_or-replicate, length-append, length-replicate}
+use Rattle.std.proofs.lemmas.List.{length-append, length-replicate}
 use Rattle.machine_state.specs.Memory.{Memory}
 use Rattle.machine_state.specs.World.{padding}
 use Rattle.module_format.specs.Contents.{Contents}
-use Rattle.plain_machine.proofs.PlainBytes.{byte_at-defined, length-defined}
+use Rattle.plain_machine.proofs.PlainBytes.{length-defined}
 use Rattle.agreement.specs.Loading.{loaded_bytes}
 use Rattle.code_pieces.specs.Pieces.{Piece}
 use Rattle.code_pieces.specs.Laying.{words_taken}
@@ -16,7 +15,6 @@ use Rattle.placed_code.specs.Closing.{first_point}
 use Rattle.placed_code.specs.LaidCode.{laid_code}
 use Rattle.placed_code.proofs.TablesInMemory.{tables_are_loaded}
 use Rattle.meant_lines.specs.Carrying.{Carries}
-use Rattle.meant_actions.specs.Bytes.{HasBytes}
 use Rattle.meant_programs.specs.Mains.{grounded}
 
 -- what is behind the words of data
@@ -32,19 +30,6 @@ data_long m =
     let all = length-append (replicate (4 * m.data_words) 0 ++ m.code ++ replicate (padding (length m.code)) 0)
     m.constants in
     omega (arith, words, code, pad, all)
-
--- a byte of them is 0
-data_zero : (m : Contents) (place : ℕ) → place < 4 * m.data_words → get_or (loaded_bytes m) place 0 ≡ 0
-data_zero m place less =
-    let zeros = replicate (4 * m.data_words) 0 in
-    let pad = replicate (padding (length m.code)) 0 in
-    let words = length-replicate {A = ℕ} (4 * m.data_words) 0 in
-    let code = length-append zeros m.code in
-    let both = length-append (zeros ++ m.code) pad in
-    get_or_append_left (zeros ++ m.code ++ pad) m.constants 0 place (omega (arith, less, words, code, both))
-    ∙ get_or_append_left (zeros ++ m.code) pad 0 place (omega (arith, less, words, code))
-    ∙ get_or_append_left zeros m.code 0 place (omega (arith, less, words))
-    ∙ get_or-replicate (4 * m.data_words) place 0 0 less
 
 module _ (ps : List Piece) (labels : ℕ) (links bytes : List ℕ) (says : Says ps labels links bytes) where
   abbrev m : Contents
@@ -68,15 +53,7 @@ module _ (ps : List Piece) (labels : ℕ) (links bytes : List ℕ) (says : Says 
         };
         kept = tt;
         rise = tt;
-        room = omega arith;
+        room = tt;
+        counted = omega arith;
         tables = λ values reads fit. tables_are_loaded ps labels links bytes says 0 values reads fit;
       }
-
-  -- it has bytes before the first word that is free
-  pub first_bytes : HasBytes 0 first_word memory
-  first_bytes place byte less other is =
-      let long = data_long m in
-      let zero = data_zero m place (omega (arith, less)) in
-      let found = byte_at-defined (loaded_bytes m) place (omega (arith, less, long)) in
-      let same : get_or (loaded_bytes m) place 0 ≡ byte = cc (sym found ∙ is) in
-      omega (arith, zero, same)

@@ -1,6 +1,6 @@
 -- Where the body of main begins: links have their homes behind the names before them, and memory carries these.
 use Rattle.std.proofs.Common.{◌≡◌, ℕ, zero, suc, ◌+◌, ◌-◌, ◌<◌, ◌≤◌, Bool, true, false, cond, List, [], ◌∷◌, ◌++◌, length, map, Option}
-use Rattle.std.proofs.Common.{Some, None, refl, sym, subst, ap, arith, ◌∙◌, append_assoc}
+use Rattle.std.proofs.Common.{Some, None, inl, refl, sym, subst, ap, arith, ◌∙◌, append_assoc}
 use Rattle.std.proofs.lemmas.Bool.{le-leb, lt-ltb, leb-true}
 use Rattle.std.specs.Prelude.{nat_eq, nat_le, ◌&&◌, option_map}
 use Rattle.word_arithmetic.specs.Range.{full}
@@ -48,6 +48,7 @@ use Rattle.code_generator.specs.Processes.{Site}
 use Rattle.code_generator.specs.Programs.{home_of_port, link_of, in_main}
 use Rattle.placed_code.specs.LaidCode.{LaidCode}
 use Rattle.meant_lines.specs.Carrying.{Ground, IsKept, start_of, end_of, Carries}
+use Rattle.meant_lines.proofs.Carrying.{ends_inside}
 use Rattle.meant_lines.proofs.Declaring.{new_names_are_carried}
 use Rattle.meant_lines.proofs.Words.{all_alike}
 use Rattle.meant_processes.specs.Places.{IsOwn, IsPlaced, Program}
@@ -129,7 +130,8 @@ formals_carried g top outer (f ∷ fs) es env m links holds long carries =
     (record { meets = (refl, tt, holds.meets); typed = (tt, holds.typed) }))
     (omega (arith, long, more))
     (new_names_are_carried g top top es env f.name k Nothing h m m holds.meets long (omega (arith, ends))
-    (omega (arith, starts)) carries.room (all_alike top g.words m)
+    (omega (arith, starts)) carries.counted (ends_inside g.words (Some h) k (omega (arith, ends)))
+    (all_alike top g.words m)
     (subst (λ k. IsKept g m h k Nothing) (sym means) tt) carries))
 
 -- ---- where names are kept
@@ -267,7 +269,7 @@ formals_are_linked p outer (f ∷ fs) es links main after inside ports linked =
     (omega (arith, inside))
     (λ n g at. subst (λ k. item_at k p.ports ≡ Some (port_for g))
     (let same : length es + suc n ≡ suc (length es) + n = omega arith in same) (ports (suc n) g at))
-    (subst (λ m. IsLinked p (length (shape es)) f.name (with_range (λ r. full) m)) (sym means) here, linked)
+    (subst (λ m. IsLinked p (length (shape es)) f.name (with_range (λ r. full) m)) (sym means) (inl here), linked)
   where
     formal_is : (p : Program) (n : ℕ) → p.position.is_main ≡ true → p.position.formals ≤ n → n < p.position.declared
         → is_formal_of_main p.position n ≡ true
@@ -347,6 +349,8 @@ module _ (items : List ProgramItem) (c : LaidCode) (words : ℕ) (whole : List P
             (let same : length (no_ports found.names) ≡ length es = omega (arith, none, named) in same)
             (item_behind (no_ports found.names) (map port_for formals) n ∙ item_mapped formals n f at))
             (all_linked main_program es found.fixed);
+        declared = omega arith;
+        alone = omega arith;
         low = omega (arith, begun);
         long = omega (arith, named, homes, ports, shaped, none, some, all, first, second);
         holds = formals_true es formals es found.names found.links found.holds;

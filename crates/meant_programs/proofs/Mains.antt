@@ -37,15 +37,12 @@ use Rattle.meant_code.proofs.AmongOthers.{parts_stay_parts}
 use Rattle.meant_code.proofs.OwnPrograms.{labels_stay_once}
 use Rattle.meant_processes.specs.Lying.{LieApart}
 use Rattle.meant_processes.specs.Places.{AllFit, CarriedAt, FitsIn, Program, ground, surroundings}
-use Rattle.meant_processes.specs.Channels.{DeclaresNoChannel}
 use Rattle.meant_processes.proofs.Behaving.{goes_on_behind}
 use Rattle.meant_processes.proofs.CodeParts.{all_first, closed_is}
 use Rattle.meant_processes.proofs.Lying.{apart_both, pieces_lie_apart, straight_lie}
 use Rattle.meant_processes.proofs.Processes.{processes_behave}
-use Rattle.meant_actions.specs.Bytes.{HasBytes}
 use Rattle.meant_runs.specs.MainsRun.{MainBehaves}
 use Rattle.meant_programs.specs.Mains.{FoundMain}
-use Rattle.meant_programs.proofs.MainMemory.{first_bytes}
 use Rattle.meant_programs.proofs.MainPlaces.{main_carried, main_names, main_placed, main_program, main_site}
 
 -- ---- the end of code
@@ -141,15 +138,10 @@ module _ (items : List ProgramItem) (code : Code) (links bytes : List ℕ) (none
     names = main_names items c (words_taken ps) ps h.memory code found
 
     carried_there : CarriedAt p site (λ w. pos 0) names h.memory
-    carried_there = record {
-      carries = main_carried items c (words_taken ps) ps h.memory code found;
-      bytes = subst (λ top. HasBytes 0 top h.memory) (sym found.top)
-          (first_bytes ps code.labels links bytes says);
-    }
+    carried_there = record { carries = main_carried items c (words_taken ps) ps h.memory code found }
 
-    pub main_behaves : DeclaresNoChannel found.procedure.body
-        → MainBehaves c (first_point (laid_module ps code.labels links says.arrangement)) items
-    main_behaves apart =
+    pub main_behaves : MainBehaves c (first_point (laid_module ps code.labels links says.arrangement)) items
+    main_behaves =
         let o = found.outside in
         let main = found.procedure in
         let stops : List Piece = operates STOP_PROCESS ∷ [] in
@@ -159,7 +151,7 @@ module _ (items : List ProgramItem) (code : Code) (links bytes : List ℕ) (none
         let stop = straight_lie c both.after_row both.middle end stops (tt, tt) both.second in
         let inside = stop_before c both.middle end stop code_ends in
         let fits = all_first (FitsIn p) closed.first.pieces stops (subst (AllFit p) closed.pieces all_fit) in
-        let means = processes_behave p main.body none found.sequential found.has_words apart refl
+        let means = processes_behave p main.body none found.sequential found.has_words refl
         (length (in_body main o.known).entries) site (λ w. pos 0) names closed.first
         (to_body o main found.comes) (main_placed items c (words_taken ps) ps h.memory code found) closed.is fits in
         record {

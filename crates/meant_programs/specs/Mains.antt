@@ -1,8 +1,8 @@
 -- Where main of a program is: what is known there, what names hold, and what memory carries of them.
-use Rattle.std.specs.Prelude.{◌≡◌, true, ℕ, pos, Bool, List, [], ◌∷◌, length, None, Some}
+use Rattle.std.specs.Prelude.{◌≡◌, true, ℕ, pos, Bool, List, [], length, None, Some}
 use Rattle.std.specs.List.{AllByRecursion}
 use Rattle.machine_state.specs.Memory.{Memory}
-use Rattle.occam_parser.specs.Blocks.{Procedure, ProgramItem, GlobalConstant, GlobalProcedure}
+use Rattle.occam_parser.specs.Blocks.{Procedure, ProgramItem, GlobalProcedure}
 use Rattle.occam_parser.specs.Words.{process_has_words, items_have_words}
 use Rattle.scalar_ranges.specs.declared.scope.ArrayKind.TheVariants as array
 use Rattle.scalar_ranges.specs.Entries as entries
@@ -24,7 +24,6 @@ use Rattle.code_generator.specs.Processes.{Site}
 use Rattle.code_generator.specs.Programs.{first_word, main_code, code_of}
 use Rattle.placed_code.specs.StraightPieces.{Footing}
 use Rattle.meant_lines.specs.Carrying.{Ground, Carries}
-use Rattle.meant_processes.specs.Channels.{DeclaresNoChannel}
 use Rattle.meant_processes.specs.Places.{IsOwn}
 
 -- the ground under main, where no loop is open
@@ -42,13 +41,6 @@ IsFixed (Constant type value) = Unit {0}
 IsFixed (Array array.Table type size range) = Unit {0}
 IsFixed (entries.Procedure number) = Unit {0}
 IsFixed m = ⊥
-
--- Main declares no channel, and has no use for one: it has no PAR.
-abbrev pub MainDeclaresNoChannel : List ProgramItem → Type 0
-MainDeclaresNoChannel [] = ⊥
-MainDeclaresNoChannel (GlobalConstant c ∷ []) = ⊥
-MainDeclaresNoChannel (GlobalProcedure p ∷ []) = DeclaresNoChannel p.body
-MainDeclaresNoChannel (item ∷ next ∷ items) = MainDeclaresNoChannel (next ∷ items)
 
 -- Main of a program with this code, where memory carries the names before it.
 pub record FoundMain (items : List ProgramItem) (footing : Footing) (words : ℕ) (whole : List Piece) (m : Memory)
@@ -73,11 +65,10 @@ pub record FoundMain (items : List ProgramItem) (footing : Footing) (words : ℕ
   pub named : is_main_name procedure.head.name ≡ true
   pub links : are_links procedure.head.formals ≡ true
   pub sequential : IsSequential procedure.body
-  pub no_channel : DeclaresNoChannel procedure.body
   pub has_words : process_has_words procedure.body ≡ true
 
 -- Main of a sequential program that breaks no rule is found, where memory carries that there are no names.
 abbrev pub MainIsFound : Type 0
 MainIsFound = (items : List ProgramItem) (code : Code) (footing : Footing) (words : ℕ) (whole : List Piece) (m : Memory)
-    → BreaksNoRule items → IsSequentialProgram items → MainDeclaresNoChannel items → items_have_words items ≡ true
-    → code_of items ≡ Some code → Carries (grounded footing words whole []) first_word [] [] m → FoundMain items footing words whole m code
+    → BreaksNoRule items → IsSequentialProgram items → items_have_words items ≡ true → code_of items ≡ Some code
+    → Carries (grounded footing words whole []) first_word [] [] m → FoundMain items footing words whole m code

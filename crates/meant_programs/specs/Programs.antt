@@ -12,13 +12,12 @@ use Rattle.code_pieces.specs.LaidModule.{Says, laid_module}
 use Rattle.code_generator.specs.Programs.{code_of}
 use Rattle.meant_code.specs.OwnCode.{OperandFits}
 use Rattle.meant_runs.specs.Meant.{RunsAsMeant}
-use Rattle.meant_programs.specs.Mains.{MainDeclaresNoChannel}
 
--- So it is of each sequential program that breaks no rule and declares no channel in main, if the operands of its pieces
--- are words and the module is certified, so that it runs well.
+-- So it is of each sequential program that breaks no rule, if the operands of its pieces are words and the module is
+-- certified, so that it runs well.
 abbrev pub ProgramsRunAsMeant : Type 0
 ProgramsRunAsMeant = (items : List ProgramItem) (code : Code) (links bytes : List ℕ) → BreaksNoRule items
-    → IsSequentialProgram items → MainDeclaresNoChannel items → items_have_words items ≡ true
-    → code_of items ≡ Some code → (says : Says (apart code.pieces) code.labels links bytes) → AllByRecursion OperandFits code.pieces
+    → IsSequentialProgram items → items_have_words items ≡ true → code_of items ≡ Some code
+    → (says : Says (apart code.pieces) code.labels links bytes) → AllByRecursion OperandFits code.pieces
     → ∥ RunsWell (laid_module (apart code.pieces) code.labels links says.arrangement) ∥₁
     → RunsAsMeant (laid_module (apart code.pieces) code.labels links says.arrangement) items
