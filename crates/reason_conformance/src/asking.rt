@@ -2,9 +2,13 @@
 
 use crate::setting::Setting;
 use conformance::{Answer, Outcome, Statement, Subject, judged, unindented};
-use occam_layout::lines;
-use reason_texts::layout_text;
-use std::alloc::Global;
+use occam_layout::{Line, lines};
+use occam_parser::parse;
+use reason_texts::{layout_text, parse_text};
+use std::alloc::{AllocError, Global};
+
+/// The path of each source.
+const PATH: &str = "a.occ";
 
 /// Whether a text has these lines.
 fn has_lines(text: &str, block: &[&str]) -> bool {
@@ -32,11 +36,23 @@ fn judge_text(text: Option<String>, statement: Statement, out: &mut Answer) -> O
     }
 }
 
-/// What is written of a source, whose path is `a.occ`.
+/// What is written of the lines of a source.
+fn text_of_lines(
+    alloc: Global,
+    source: &[u8],
+    lines: &[Line<'_>],
+) -> Result<Option<String>, AllocError> {
+    match parse(alloc, lines) {
+        Ok(_) => Ok(None),
+        Err(fault) => parse_text(alloc, PATH, source, lines, fault),
+    }
+}
+
+/// What is written of a source.
 fn ask_reason(alloc: Global, source: &[u8], statement: Statement, out: &mut Answer) -> Outcome {
     let text = match lines(alloc, source) {
-        Ok(_) => Ok(None),
-        Err(fault) => layout_text(alloc, "a.occ", source, fault),
+        Ok(lines) => text_of_lines(alloc, source, &lines),
+        Err(fault) => layout_text(alloc, PATH, source, fault),
     };
     match text {
         Ok(text) => judge_text(text, statement, out),

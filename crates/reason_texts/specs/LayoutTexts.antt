@@ -1,5 +1,5 @@
 -- What is written of a source that has no lines of tokens.
-use Rattle.std.specs.Prelude.{ℕ, ◌+◌, List, [], ◌++◌, codes, ◌==◌, nat_le, if◌then◌else◌, Option, Some, None}
+use Rattle.std.specs.Prelude.{ℕ, List, [], ◌++◌, codes, ◌==◌, nat_le, if◌then◌else◌, Option, Some, None}
 use Rattle.std.specs.Prelude.{option_map, get_or}
 use Rattle.std.specs.Fmt.{decimal}
 use Rattle.occam_layout.specs.declared.fault.LayoutFault.{LayoutFault}
@@ -52,7 +52,7 @@ sentence line (reason.NoCharacter at) =
     codes "byte " ++ (decimal (byte_at line at) ++ codes " is no character of a source")
 sentence line (reason.BadToken bad) = token_text line bad
 sentence line reason.TooManyLines = codes "a source has at most 32768 lines"
-sentence line (reason.TooManyBytes bytes) = decimal bytes ++ codes " bytes, but a source has at most 1048576"
+sentence line (reason.TooManyBytes bytes) = codes "a source has at most 1048576 bytes"
 
 -- ---- what to write in its place
 

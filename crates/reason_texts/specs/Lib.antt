@@ -1,2 +1,4 @@
 pub mod Blocks
 pub mod LayoutTexts
+pub mod Hints
+pub mod ParseTexts

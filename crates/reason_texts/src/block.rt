@@ -72,7 +72,7 @@ pub(crate) fn meant(line: &[u8], at: usize, len: usize) -> &[u8]
 
 /// Appends bytes of a line, and the quote that ends them.
 #[tactic(auto, unfolding(crate::specs::Blocks::closed_text))]
-fn push_closed(text: &mut String, bytes: &[u8]) -> Result<(), AllocError>
+pub(crate) fn push_closed(text: &mut String, bytes: &[u8]) -> Result<(), AllocError>
     ensures { OnOk result (string_bytes text.new ≡ string_bytes text.old ++ closed_text bytes.now) }
 {
     push_bytes(text, bytes)?;

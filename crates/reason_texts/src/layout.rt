@@ -79,9 +79,7 @@ fn push_sentence(text: &mut String, line: &[u8], reason: LayoutReason) -> Result
         }
         LayoutReason::BadToken(bad) => push_token(text, line, bad),
         LayoutReason::TooManyLines => text.push_str("a source has at most 32768 lines"),
-        LayoutReason::TooManyBytes { bytes } => {
-            write!(text, "{bytes} bytes, but a source has at most 1048576")
-        }
+        LayoutReason::TooManyBytes { .. } => text.push_str("a source has at most 1048576 bytes"),
     }
 }
 

@@ -2,6 +2,9 @@
 #![tactic(auto)]
 
 mod block;
+mod hints;
 mod layout;
+mod parse;
 
 pub use layout::layout_text;
+pub use parse::parse_text;

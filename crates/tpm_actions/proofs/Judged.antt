@@ -24,7 +24,7 @@ module _ {F R W : Type 0} (opens : F → Text → Result R FileFault → F → T
     (left : R → Option (List ℕ)) (read_failed : R → Bool) (written : W → Option (List ℕ))
     (write_failed : W → Bool) where
   module_withheld : (bytes : List ℕ) (source out : Text) (before after : F) (failure : Failure)
-      → WithholdsModule creates closes written bytes out before after failure
+      → WithholdsModule creates closes written source bytes out before after failure
       → IsHindered opens creates closes left read_failed written write_failed bytes (compiles source out) before after
       failure
   module_withheld bytes source out before after (failures.Malformed fault) why = absurd why.writes
@@ -45,7 +45,7 @@ module _ {F R W : Type 0} (opens : F → Text → Result R FileFault → F → T
       (result : Result S Failure)
       → MatchResult result
       (λ text. HasCompiled creates closes written bytes out before after (text_of text))
-      (WithholdsModule creates closes written bytes out before after)
+      (WithholdsModule creates closes written source bytes out before after)
       → MatchResult result
       (λ text. IsTold opens creates closes left read_failed written write_failed bytes (compiles source out) before
       after (text_of text))

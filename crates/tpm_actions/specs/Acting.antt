@@ -10,7 +10,6 @@ use Rattle.module_format.specs.Keeping.{Format}
 use Rattle.link_runner.specs.declared.report.Report.{Report as RunReport}
 use Rattle.verifier.specs.declared.Refusal.{Refusal}
 use Rattle.certified_worlds.specs.Certified.{IsCertified}
-use Rattle.compiler.specs.declared.source.CompileFault.{CompileFault}
 use Rattle.compiler.specs.Compiled.{IsRefusedFor}
 use Rattle.verifier.specs.Reports.{Reports, out_of_memory}
 use Rattle.verifier.specs.declared.upgrading.UpgradeFault.{UpgradeFault}
@@ -18,6 +17,7 @@ use Rattle.tpm_actions.specs.declared.extent.Extent.{Extent}
 use Rattle.tpm_actions.specs.declared.files.FileFault.{FileFault}
 use Rattle.tpm_actions.specs.Extents.{begins_as_module, extent_of}
 use Rattle.tpm_actions.specs.declared.files.FileFault.TheVariants as file_faults
+use Rattle.tpm_actions.specs.declared.refused.RefusedSource.{RefusedSource}
 use Rattle.tpm_actions.specs.declared.report.Report.TheVariants.{Accepted}
 use Rattle.tpm_actions.specs.declared.report.Failure.{Failure}
 use Rattle.tpm_actions.specs.declared.report.Failure.TheVariants as failures
@@ -25,7 +25,7 @@ use Rattle.tpm_actions.specs.declared.report.TheConstants.{DONE, REFUSED, MISUSE
 use Rattle.command_line.specs.Asked.{Asked, compiles, upgrades, verifies, runs, debugs, lists, explains, path_of}
 use Rattle.command_line.specs.Asked.{wants_verdict}
 use Rattle.command_line.specs.CommandLine.{line_of}
-use Rattle.tpm_actions.specs.Compiling.{CompilesAndWrites, HasCompiled}
+use Rattle.tpm_actions.specs.Compiling.{CompilesAndWrites, HasCompiled, IsRefusedAs}
 use Rattle.tpm_actions.specs.Explaining.{ExplainsRefusal, IsExplained, IsRefusalExplained}
 use Rattle.tpm_actions.specs.Malformed.{IsMalformed}
 use Rattle.tpm_actions.specs.Upgrading.{HasUpgraded, IsRefusedUpgrade, UpgradesAndWrites}
@@ -92,12 +92,12 @@ abbrev pub IsRefusedWith : List ℕ → Asked → Refusal → Text → Type 0
 IsRefusedWith bytes (explains path) refusal text = IsRefusalExplained bytes refusal text
 IsRefusedWith bytes asked refusal text = ⊥
 
--- A source is asked for that becomes no module, for this reason.
-abbrev pub IsUncompiled : List ℕ → Asked → CompileFault → Type 0
-IsUncompiled bytes (compiles source out) fault = IsRefusedFor bytes fault
-IsUncompiled bytes (debugs path inputs outputs limit trace) fault =
-    (begins_as_module bytes ≡ false) × IsRefusedFor bytes fault
-IsUncompiled bytes asked fault = ⊥
+-- A source is asked for that becomes no module. Where it was to be compiled to a file, this says where and why.
+abbrev pub IsUncompiled : List ℕ → Asked → RefusedSource → Type 0
+IsUncompiled bytes (compiles source out) why = IsRefusedAs source bytes why
+IsUncompiled bytes (debugs path inputs outputs limit trace) why =
+    (begins_as_module bytes ≡ false) × IsRefusedFor bytes why.fault
+IsUncompiled bytes asked why = ⊥
 
 -- A module in version 2 is asked for, and there is none for this reason.
 abbrev pub IsNotUpgraded : List ℕ → Asked → UpgradeFault → Type 0
@@ -108,7 +108,7 @@ IsNotUpgraded bytes asked fault = ⊥
 pub data IsRefusedBy (bytes : List ℕ) (asked : Asked) : Type 0 where
   malformed : (fault : FormatFault) → IsMalformed bytes fault → IsRefusedBy bytes asked
   uncertified : (refusal : Refusal) → IsUncertified bytes asked refusal → IsRefusedBy bytes asked
-  uncompiled : (fault : CompileFault) → IsUncompiled bytes asked fault → IsRefusedBy bytes asked
+  uncompiled : (why : RefusedSource) → IsUncompiled bytes asked why → IsRefusedBy bytes asked
   not_upgraded : (fault : UpgradeFault) → IsNotUpgraded bytes asked fault → IsRefusedBy bytes asked
 
 -- ---- standard output
@@ -239,8 +239,8 @@ module _ {F R W : Type 0} (opens : F → Text → Result R FileFault → F → T
       IsRefusedWith bytes asked refusal (string_bytes text) × (after ≡ before)
   IsHindered bytes asked before after (failures.Faulted fault text) =
       IsFaulted bytes asked fault.fault before after (string_bytes text)
-  IsHindered bytes asked before after (failures.Uncompiled fault) =
-      IsUncompiled bytes asked fault × (after ≡ before)
+  IsHindered bytes asked before after (failures.Uncompiled why) =
+      IsUncompiled bytes asked why × (after ≡ before)
   IsHindered bytes asked before after (failures.NotUpgraded fault) =
       IsNotUpgraded bytes asked fault × (after ≡ before)
   IsHindered bytes asked before after failures.Unwritten = ⊥

@@ -1,14 +1,42 @@
 -- A source that is compiled, and the file that its module is written to: our own choice.
-use Rattle.std.specs.Prelude.{◌≡◌, ◌⊎◌, ⊤, ℕ, Bool, true, List, length, Option, Result, Ok, Err}
+use Rattle.std.specs.Prelude.{◌≡◌, ◌⊎◌, ⊤, ℕ, Bool, true, List, length, Option, Some, Result, Ok, Err, IfSome}
+use Rattle.std.specs.Prelude.{string_bytes}
 use Rattle.std.specs.Io.KnownBytes.{Appends}
 use Rattle.command_line.specs.Words.{Text}
-use Rattle.compiler.specs.Compiled.{IsCompiled, IsRefusedFor}
+use Rattle.occam_layout.specs.declared.token.Line.{Line}
+use Rattle.occam_parser.specs.declared.fault.ParseFault.{ParseFault}
+use Rattle.reason_texts.specs.LayoutTexts.{layout_text}
+use Rattle.reason_texts.specs.ParseTexts.{parse_text}
+use Rattle.compiler.specs.declared.source.CompileFault.{CompileFault}
+use Rattle.compiler.specs.declared.source.CompileFault.TheVariants as faults
+use Rattle.compiler.specs.Compiled.{HasLines, IsCompiled, IsRefusedFor}
 use Rattle.tpm_actions.specs.declared.files.FileFault.{FileFault}
 use Rattle.tpm_actions.specs.declared.files.FileFault.TheVariants as file_faults
+use Rattle.tpm_actions.specs.declared.refused.RefusedSource.{RefusedSource}
 use Rattle.tpm_actions.specs.declared.report.Report.TheVariants.{Compiled}
 use Rattle.tpm_actions.specs.declared.report.Failure.{Failure}
 use Rattle.tpm_actions.specs.declared.report.Failure.TheVariants as failures
 use Rattle.tpm_actions.specs.Texts.{report_line}
+
+-- The source has lines that are no program, of which this is written.
+pub record IsParseReason (path : Text) (source : List ℕ) (fault : ParseFault) (text : Text) : Type 0 where
+  pub lines : List Line
+  pub has_lines : HasLines source lines
+  pub written : parse_text path source lines fault ≡ Some text
+
+-- What is written of a source before the fault for which it is refused: why it has no lines of tokens, or why they are
+-- no program.
+abbrev pub IsReason : Text → List ℕ → CompileFault → Text → Type 0
+IsReason path source (faults.Layout fault) text = layout_text path source fault ≡ Some text
+IsReason path source (faults.Syntax fault) text = IsParseReason path source fault text
+IsReason path source (faults.Usage fault) text = ⊥
+IsReason path source (faults.Generation fault) text = ⊥
+
+-- The source becomes no module for this fault. What is written before it is its reason, but nothing where it has none,
+-- or where memory ran out.
+pub record IsRefusedAs (path : Text) (source : List ℕ) (why : RefusedSource) : Type 0 where
+  pub refused_for : IsRefusedFor source why.fault
+  pub reason : IfSome why.reason (λ text. IsReason path source why.fault (string_bytes text))
 
 module _ {F W : Type 0} (creates : F → Text → Result W FileFault → F → Type 0) (closes : F → W → Bool → F → Type 0)
     (written : W → Option (List ℕ)) where
@@ -54,11 +82,11 @@ module _ {F W : Type 0} (creates : F → Text → Result W FileFault → F → T
     pub told : text ≡ report_line (Compiled (length bytes))
 
   -- why nothing is reported about a source
-  abbrev pub WithholdsModule : List ℕ → Text → F → F → Failure → Type 0
-  WithholdsModule source path before after (failures.Uncompiled fault) =
-      IsRefusedFor source fault × (after ≡ before)
-  WithholdsModule source path before after failures.Memory =
-      CompilesAndWrites source path before after (Err failures.Memory)
-      ⊎ ((u : ⊤) × CompilesAndWrites source path before after (Ok u))
-  WithholdsModule source path before after failure =
-      CompilesAndWrites source path before after (Err failure)
+  abbrev pub WithholdsModule : Text → List ℕ → Text → F → F → Failure → Type 0
+  WithholdsModule path source out before after (failures.Uncompiled why) =
+      IsRefusedAs path source why × (after ≡ before)
+  WithholdsModule path source out before after failures.Memory =
+      CompilesAndWrites source out before after (Err failures.Memory)
+      ⊎ ((u : ⊤) × CompilesAndWrites source out before after (Ok u))
+  WithholdsModule path source out before after failure =
+      CompilesAndWrites source out before after (Err failure)

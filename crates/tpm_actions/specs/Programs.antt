@@ -59,7 +59,7 @@ module _ {F R W : Type 0} (opens : F → Text → Result R FileFault → F → T
   -- the same of what is in a file
   abbrev pub WithholdsProgram : List ℕ → Failure → Type 0
   WithholdsProgram bytes (failures.Malformed fault) = IsMalformed bytes fault × (after ≡ before)
-  WithholdsProgram bytes (failures.Uncompiled fault) =
-      ((begins_as_module bytes ≡ false) × IsRefusedFor bytes fault) × (after ≡ before)
+  WithholdsProgram bytes (failures.Uncompiled why) =
+      ((begins_as_module bytes ≡ false) × IsRefusedFor bytes why.fault) × (after ≡ before)
   WithholdsProgram bytes failures.Memory = ⊤
   WithholdsProgram bytes failure = IsProgramWith bytes (λ m. WithholdsRun m failure)

@@ -104,7 +104,7 @@ fn judge<'a, F: Files, T: Write + Drop>(
         bytes.now asked files.old files.new) }
 {
     match line {
-        Line::Compile { out, .. } => compile_to_file(alloc, bytes, out, files),
+        Line::Compile { source, out } => compile_to_file(alloc, source, bytes, out, files),
         Line::Upgrade { out, .. } => upgrade_to_file(alloc, bytes, out, files),
         Line::Debug {
             inputs,

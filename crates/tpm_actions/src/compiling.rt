@@ -5,6 +5,7 @@ ghost use Rattle.tpm_actions.specs.Compiling.{HasCompiled, WithholdsModule, Writ
 ghost use Rattle.tpm_actions.specs.FilesInOrder.{inside};
 
 use crate::files::{FileFault, Files};
+use crate::refused::refused_source;
 use crate::report::{Failure, Report};
 use compiler::compile;
 use link_runner::write_whole;
@@ -31,10 +32,11 @@ pub fn write_file<'a, F: Files>(
     }
 }
 
-/// Compiles a source, writes its module to the file of this path, and reports how long it is. The file is not created
-/// unless there is a module.
+/// Compiles the source of this path, writes its module to the file `out`, and reports how long it is. The file is not
+/// created unless there is a module.
 pub fn compile_to_file<'a, F: Files>(
     alloc: Global,
+    path: &str,
     source: &[u8],
     out: &'a str,
     files: &mut F,
@@ -42,9 +44,15 @@ pub fn compile_to_file<'a, F: Files>(
     ensures { MatchResult result
         (λ text. HasCompiled F.creates F.closes (inside F.Writer.written) source.now out.entry.now files.old files.new
         (string_bytes text))
-        (WithholdsModule F.creates F.closes (inside F.Writer.written) source.now out.entry.now files.old files.new) }
+        (WithholdsModule F.creates F.closes (inside F.Writer.written) path.now source.now out.entry.now files.old
+        files.new) }
 {
-    let module = compile(alloc, source)?;
+    let module = match compile(alloc, source) {
+        Ok(module) => module,
+        Err(fault) => {
+            return Err(Failure::Uncompiled(refused_source(alloc, path, source, fault)));
+        }
+    };
     write_file(out, &module, files)?;
     let report = Report::Compiled {
         bytes: module.len(),

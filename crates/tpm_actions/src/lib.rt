@@ -10,6 +10,7 @@ mod files;
 mod laws;
 mod opened;
 mod programs;
+mod refused;
 mod report;
 mod run_report;
 mod running;

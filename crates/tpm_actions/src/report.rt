@@ -1,8 +1,9 @@
 //! What is reported about a module or a source, and why nothing is, or why the module is refused.
 
-ghost use Rattle.std.specs.Prelude.{◌≡◌, Some};
+ghost use Rattle.std.specs.Prelude.{◌≡◌, None, Some};
 ghost use Rattle.tpm_actions.specs.Texts.{report_text, status_of};
 
+use crate::refused::RefusedSource;
 use compiler::CompileFault;
 use machine_state::Link;
 use module_format::FormatFault;
@@ -71,8 +72,8 @@ pub enum Failure<'a> {
     #[error("{fault}")]
     Faulted { fault: FaultText, text: String },
     /// The source becomes no module.
-    #[error("refused {0}")]
-    Uncompiled(CompileFault),
+    #[error("{0}")]
+    Uncompiled(RefusedSource),
     /// The module is not upgraded.
     #[error("refused U{}", .0.number())]
     NotUpgraded(UpgradeFault),
@@ -119,10 +120,13 @@ impl From<Refusal> for Failure<'_> {
 impl From<CompileFault> for Failure<'_> {
     ghost use Rattle.tpm_actions.specs.declared.report.Failure.TheVariants as failures;
 
-    ghost from_gives = { λ fault failure. failure ≡ failures.Uncompiled fault };
+    ghost from_gives = { λ fault failure. failure ≡ failures.Uncompiled (record { fault = fault; reason = None }) };
 
     fn from(fault: CompileFault) -> Self {
-        Failure::Uncompiled(fault)
+        Failure::Uncompiled(RefusedSource {
+            fault,
+            reason: None,
+        })
     }
 }
 
