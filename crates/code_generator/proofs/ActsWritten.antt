@@ -18,9 +18,10 @@ use Rattle.code_generator.specs.declared.processes.ProcessWriter.{ProcessWriter}
 use Rattle.code_generator.specs.Calls.{callee_start, callee_code, in_callee}
 use Rattle.code_generator.specs.CallViews.{callee_of, surroundings_of}
 use Rattle.code_generator.specs.Instances.{cleaning_code}
+use Rattle.line_pieces.specs.FrameViews.{frame_seen}
 use Rattle.code_generator.specs.Processes.{Site, process_code, called}
 use Rattle.code_generator.specs.Written.{site_of, Appends, Writes, WritesConstruct, WritesProcess, WritesLine}
-use Rattle.code_generator.specs.Written.{IsCall, BeginsInstance, EndsInstance}
+use Rattle.code_generator.specs.Written.{IsCall, BeginsInstance, EndsInstance, Spends}
 use Rattle.code_generator.proofs.PartsWritten.{appends_before, appends_closed}
 
 -- ---- an action
@@ -43,6 +44,15 @@ writes_from {s} {v} {t} code after same place x = record {
   code = subst (λ (y : List Piece × Site). Appends y.0 t.listing t.label (code y.1)) (λ i. (same i, place i)) x.code;
   known = x.known ∙ ap (λ (y : Site). after y.known) place;
   frame = x.frame ∙ ap (λ (y : Site). y.frame) place;
+}
+
+-- Code that was written is there as before where all but what was spent stays.
+pub writes_still : {s t u : ProcessWriter} {code : Option Code} {after : Known} → Spends t u → Writes s t code after
+    → Writes s u code after
+writes_still {s} {code = code} x w = record {
+  code = subst (λ (y : List Piece × ℕ). Appends s.listing y.0 y.1 code) (λ i. (sym x.listing i, sym x.label i)) w.code;
+  known = ap known_of x.scope ∙ w.known;
+  frame = ap frame_seen x.frame ∙ w.frame;
 }
 
 -- ---- an instance

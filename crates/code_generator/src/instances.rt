@@ -81,6 +81,7 @@ impl<'a> ProcessWriter<'a> {
             spent,
         };
         body.write_row(limits, self.label)?;
+        body.listing.enter_line();
         Ok(body)
     }
 
@@ -96,6 +97,7 @@ impl<'a> ProcessWriter<'a> {
         self.label = body.label;
         self.spent = self.spent.behind(body.spent);
         self.listing = body.listing;
+        self.listing.leave_line()?;
         let setting = Setting {
             scope: &self.scope,
             homes: &self.frame.homes,

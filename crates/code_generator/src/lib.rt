@@ -11,6 +11,7 @@ mod instances;
 mod laws;
 mod limits;
 mod loops;
+mod marking;
 mod parallel;
 mod passing;
 mod processes;

@@ -111,6 +111,16 @@ impl<'a> ProcessWriter<'a> {
         Ok(Fork::new(self.alloc, known, self.frame.top))
     }
 
+    /// A `PAR` under a replicator begins. The lines of its branches are within that of the replicator.
+    fn begin_turns(&mut self) -> Result<Fork, GenFault>
+        ensures scope { IfOk result (λ _. self.new.scope ≡ self.old.scope) }
+        ensures frame { IfOk result (λ _. self.new.frame ≡ self.old.frame) }
+    {
+        let fork = self.begin_fork()?;
+        self.listing.enter_line();
+        Ok(fork)
+    }
+
     /// The code of a branch begins, which has its entry at this label.
     fn begin_branch(
         &mut self,
@@ -226,6 +236,14 @@ impl<'a> ProcessWriter<'a> {
         Ok(())
     }
 
+    /// The code of a `PAR` under a replicator whose branches are written.
+    fn write_turns_fork(&mut self, limits: Limits, fork: Fork) -> Result<(), GenFault>
+        ensures { IfOk result (λ _. IsKept self.old self.new) }
+    {
+        self.listing.leave_line()?;
+        self.write_fork(limits, fork)
+    }
+
     /// A `PAR`.
     #[cycle(processes)]
     pub(crate) fn write_par(
@@ -284,13 +302,13 @@ impl<'a> ProcessWriter<'a> {
         }
         let names = self.frame.homes.len();
         let top = self.frame.top;
-        let mut fork = self.begin_fork()?;
+        let mut fork = self.begin_turns()?;
         self.scope.begin_par()?;
         self.frame.add_home(Home::Nowhere)?;
         self.write_components(around, &mut fork, replicator.name, repeats, process)?;
         self.frame.leave(names, top);
         self.scope.end();
-        self.write_fork(around.limits, fork)?;
+        self.write_turns_fork(around.limits, fork)?;
         Ok(())
     }
 

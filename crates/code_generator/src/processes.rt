@@ -245,9 +245,26 @@ impl<'a> ProcessWriter<'a> {
         Ok(())
     }
 
-    /// A process, with what it declares.
+    /// A process, with what it declares. Its code is that of its line, and what comes after it that of the line before.
     #[cycle(processes)]
     pub fn write(
+        &mut self,
+        around: Surroundings<'_, 'a>,
+        process: &Process<'a>,
+    ) -> Result<(), GenFault>
+        ensures ok { IfOk result (λ _. WritesProcess self.old self.new around.entry (process_of process.now)) }
+        ensures limit { result ≡ Err GenFault.Limit → Exceeds around.entry.limits self.old.listing
+            (process_code (surroundings_of around.entry) (process_of process.now) (site_of self.old)) }
+    {
+        let before = self.begin_line(process.line)?;
+        self.write_process(around, process)?;
+        self.begin_line(before)?;
+        Ok(())
+    }
+
+    /// A process, with what it declares, on the line that is begun.
+    #[cycle(processes)]
+    fn write_process(
         &mut self,
         around: Surroundings<'_, 'a>,
         process: &Process<'a>,

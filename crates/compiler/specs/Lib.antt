@@ -1,2 +1,3 @@
 pub mod LinkLengths
 pub mod Compiled
+pub mod CodeLines

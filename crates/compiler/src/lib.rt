@@ -2,9 +2,11 @@
 #![tactic(auto)]
 
 mod generating;
+mod lining;
 mod links;
 mod source;
 
 pub use generating::generate;
+pub use lining::code_lines;
 pub use links::link_lengths;
 pub use source::{CompileFault, compile};

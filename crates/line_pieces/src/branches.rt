@@ -10,6 +10,7 @@ ghost use Rattle.line_pieces.specs.Cutting.{cut_piece, is_used, words_at, all_wo
 
 use crate::facts::push_any;
 use crate::listing::Listing;
+use crate::marking::LineMark;
 use crate::noting::{Access, Notes, row_word};
 use crate::setting::word_after;
 use code_pieces::{ParBranch, Piece, RowEntry, WordFact, words_taken};
@@ -29,6 +30,8 @@ pub struct Branch {
     pub depth: u32,
     pub pieces: Vec<Piece>,
     pub notes: Notes,
+    /// Which lines the pieces come from.
+    pub(crate) marks: Vec<LineMark>,
     /// What it has.
     pub row: ParBranch,
 }
@@ -237,7 +240,12 @@ impl Fork {
     ) -> Result<(), GenFault>
         ensures { IfOk result (λ _. self.new.next ≡ words_taken code) }
     {
-        let Listing { code, notes, .. } = code;
+        let Listing {
+            code,
+            notes,
+            lines,
+            ..
+        } = code;
         let pieces = code.into_vec();
         let above = words_taken(&pieces);
         let row = notes.branch_row(alloc, &self.known, entry, depth, above)?;
@@ -249,6 +257,7 @@ impl Fork {
             depth,
             pieces,
             notes,
+            marks: lines.into_marks(),
             row,
         })?;
         Ok(())

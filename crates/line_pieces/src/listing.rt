@@ -9,6 +9,7 @@ ghost use Rattle.line_pieces.specs.Expressions.{back, exchanged};
 ghost use Rattle.line_pieces.specs.declared.pieces.TheConstants.{GREATEST_COUNT};
 ghost use Rattle.line_pieces.specs.Limits.{is_too_much};
 
+use crate::marking::LineMarks;
 use crate::noting::Notes;
 use crate::pieces::{CountedPieces, GREATEST_COUNT};
 use crate::work::Work;
@@ -24,6 +25,8 @@ use std::rc::Rc;
 pub struct Listing {
     pub(crate) code: CountedPieces,
     pub notes: Notes,
+    /// Which lines the pieces come from.
+    pub(crate) lines: LineMarks,
     /// How many pieces there are in other listings.
     others: usize,
     /// What was done beside writing, for other listings too.
@@ -55,6 +58,7 @@ impl Listing {
         Listing {
             code: CountedPieces::new(alloc),
             notes: Notes::new(alloc, 0),
+            lines: LineMarks::new(alloc),
             others: 0,
             work: Work::nothing(),
         }
@@ -68,6 +72,7 @@ impl Listing {
         Listing {
             code: CountedPieces::new(alloc),
             notes: Notes::new(alloc, first),
+            lines: self.lines.branch(alloc),
             others: before.saturating_add(pieces),
             work: self.work,
         }

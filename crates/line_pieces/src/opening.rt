@@ -87,10 +87,12 @@ impl Listing {
         let Branch {
             pieces,
             notes,
+            marks,
             row,
             ..
         } = branch;
         self.notes.note_all(&notes)?;
+        self.take_marks(&marks)?;
         for piece in pieces {
             self.push(piece)?;
         }

@@ -1,20 +1,20 @@
 -- What became of a run, as what became of a module or a source that was run.
 use Rattle.std.proofs.Common.{ℕ, Bool, List, Option, Result, Ok, Err, MatchResult}
-use Rattle.module_format.specs.Contents.{Contents}
 use Rattle.command_line.specs.Words.{Text}
 use Rattle.command_line.specs.declared.links.OnLinks.{OnLinks}
 use Rattle.tpm_actions.specs.declared.files.FileFault.{FileFault}
 use Rattle.tpm_actions.specs.declared.report.Failure.{Failure}
 use Rattle.tpm_actions.specs.declared.report.Failure.TheVariants as failures
 use Rattle.tpm_actions.specs.Debugging.{StopsRun}
-use Rattle.tpm_actions.specs.Programs.{IsProgramOf, TellsModule, TellsProgram, WithholdsProgram, WithholdsRun}
+use Rattle.tpm_actions.specs.Programs.{LinedModule, IsProgramOf, TellsModule, TellsProgram, WithholdsProgram, WithholdsRun}
 
 module _ {F R W : Type 0} (opens : F → Text → Result R FileFault → F → Type 0)
     (creates : F → Text → Result W FileFault → F → Type 0) (closes : F → W → Bool → F → Type 0)
     (left : R → Option (List ℕ)) (read_failed : R → Bool) (written : W → Option (List ℕ)) (write_failed : W → Bool)
-    (inputs outputs : OnLinks (Option Text)) (limit : Option Text) (before after : F) (m : Contents) where
+    (inputs outputs : OnLinks (Option Text)) (limit : Option Text) (before after : F) (m : LinedModule) where
   pub stops_run : (failure : Failure)
-      → StopsRun opens creates closes left read_failed written write_failed m inputs outputs limit before after failure
+      → StopsRun opens creates closes left read_failed written write_failed m.contents inputs outputs limit before after
+      failure
       → WithholdsRun opens creates closes left read_failed written write_failed inputs outputs limit before after m
       failure
   stops_run (failures.Malformed fault) why = why
@@ -37,16 +37,16 @@ module _ {F R W : Type 0} (opens : F → Text → Result R FileFault → F → T
         → WithholdsProgram opens creates closes left read_failed written write_failed inputs outputs limit before after
         bytes failure
     withheld (failures.Malformed fault) why = absurd why
-    withheld (failures.Uncertified refusal) why = record { contents = m; program = program; holds = why }
-    withheld (failures.Explained refusal text) why = record { contents = m; program = program; holds = why }
-    withheld (failures.Faulted fault text) why = record { contents = m; program = program; holds = why }
+    withheld (failures.Uncertified refusal) why = record { lined = m; program = program; holds = why }
+    withheld (failures.Explained refusal text) why = record { lined = m; program = program; holds = why }
+    withheld (failures.Faulted fault text) why = record { lined = m; program = program; holds = why }
     withheld (failures.Uncompiled fault) why = absurd why
-    withheld (failures.NotUpgraded fault) why = record { contents = m; program = program; holds = why }
-    withheld (failures.Unread path) why = record { contents = m; program = program; holds = why }
-    withheld (failures.Uncreated path) why = record { contents = m; program = program; holds = why }
-    withheld (failures.ReadFailed link) why = record { contents = m; program = program; holds = why }
-    withheld (failures.WriteFailed link) why = record { contents = m; program = program; holds = why }
-    withheld failures.Unwritten why = record { contents = m; program = program; holds = why }
+    withheld (failures.NotUpgraded fault) why = record { lined = m; program = program; holds = why }
+    withheld (failures.Unread path) why = record { lined = m; program = program; holds = why }
+    withheld (failures.Uncreated path) why = record { lined = m; program = program; holds = why }
+    withheld (failures.ReadFailed link) why = record { lined = m; program = program; holds = why }
+    withheld (failures.WriteFailed link) why = record { lined = m; program = program; holds = why }
+    withheld failures.Unwritten why = record { lined = m; program = program; holds = why }
     withheld failures.Memory why = tt
 
     -- what a module's run tells, or why it is not told, of the bytes that it is in
@@ -60,5 +60,5 @@ module _ {F R W : Type 0} (opens : F → Text → Result R FileFault → F → T
         after bytes (text_of text))
         (WithholdsProgram opens creates closes left read_failed written write_failed inputs outputs limit before after
         bytes)
-    programmed text_of (Ok text) has = record { contents = m; program = program; holds = has }
+    programmed text_of (Ok text) has = record { lined = m; program = program; holds = has }
     programmed text_of (Err failure) why = withheld failure why

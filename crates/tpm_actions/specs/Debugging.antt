@@ -21,6 +21,7 @@ use Rattle.machine.specs.Asking.{Execution}
 use Rattle.machine.specs.Bounding.{BoundedExecution, Shows, HasStopped}
 use Rattle.waiting_texts.specs.declared.setting.Setting.{Setting}
 use Rattle.waiting_texts.specs.Resting.{IsWorldOf}
+use Rattle.source_lines.specs.declared.entry.LineEntry.{LineEntry}
 use Rattle.waiting_texts.specs.Lines.{TellsWaits}
 use Rattle.compiler.specs.Compiled.{IsCompiled}
 use Rattle.command_line.specs.Words.{Text}
@@ -75,11 +76,11 @@ IsKnown endings.Over execution = IsWorldOf execution.contents execution.world
 IsKnown endings.Cut execution = ⊤
 IsKnown (endings.Faulted fault) execution = ⊤
 
--- This text says how far the run came, and what each process waits for.
-pub record TellsRun (m : Contents) (inputs outputs : OnLinks (Option Text)) (ending : Ending) (w : World)
+-- This text says how far the run came, and what each process waits for, with the lines of these entries.
+pub record TellsRun (m : Contents) (lines : List LineEntry) (inputs outputs : OnLinks (Option Text)) (ending : Ending) (w : World)
     (tally : Tally) (text : Text) : Type 0 where
   pub waits : Text
-  pub tells : TellsWaits m (setting_of inputs outputs ending) w waits
+  pub tells : TellsWaits m lines (setting_of inputs outputs ending) w waits
   pub told : text ≡ debug_text ending inputs outputs (report_at w tally) waits
 
 module _ {F R W : Type 0} (creates : F → Text → Result W FileFault → F → Type 0) (left : R → Option (List ℕ))
@@ -165,12 +166,12 @@ module _ {F R W : Type 0} (opens : F → Text → Result R FileFault → F → T
     pub drives : DrivesOpened creates closes left read_failed written write_failed m outputs opened after readers machine
         tally result
 
-  -- The run came to this ending, up to this number of bytes, and this text reports it.
-  pub record HasRunTo (ending : Ending) (text : Text) : Type 0 where
+  -- The run came to this ending, up to this number of bytes, and this text reports it with the lines of these entries.
+  pub record HasRunTo (lines : List LineEntry) (ending : Ending) (text : Text) : Type 0 where
     pub machine : BoundedExecution
     pub tally : Tally
     pub drives : OpensAndDrives machine tally (Ok ending)
-    pub tells : TellsRun m inputs outputs ending machine.world tally text
+    pub tells : TellsRun m lines inputs outputs ending machine.world tally text
 
   -- A link or a file of one failed.
   abbrev pub Fails : Failure → Type 0

@@ -1,8 +1,10 @@
 -- The run of a module or a source on the machine that checks each rule: our own choice.
-use Rattle.std.specs.Prelude.{◌≡◌, ⊤, ℕ, Bool, true, false, List, Option, Result, string_bytes}
+use Rattle.std.specs.Prelude.{◌≡◌, ⊤, ℕ, Bool, true, false, List, [], Option, Result, string_bytes}
 use Rattle.module_format.specs.Contents.{Contents}
 use Rattle.module_format.specs.Keeping.{Format}
 use Rattle.compiler.specs.Compiled.{IsCompiled, IsRefusedFor}
+use Rattle.compiler.specs.CodeLines.{AreLinesOf}
+use Rattle.source_lines.specs.declared.entry.LineEntry.{LineEntry}
 use Rattle.command_line.specs.Words.{Text}
 use Rattle.command_line.specs.declared.links.OnLinks.{OnLinks}
 use Rattle.tpm_actions.specs.declared.debugging.Ending.{Ending}
@@ -14,17 +16,25 @@ use Rattle.tpm_actions.specs.Debugging.{HasRunTo, StopsRun}
 use Rattle.tpm_actions.specs.Extents.{begins_as_module}
 use Rattle.tpm_actions.specs.Malformed.{IsMalformed}
 
--- The bytes are the file of this module, or a source that is compiled to it.
-pub data IsProgramOf (bytes : List ℕ) (m : Contents) : Type 0 where
-  is_module : begins_as_module bytes ≡ true → Format bytes m → IsProgramOf bytes m
-  is_source : (file : List ℕ) → begins_as_module bytes ≡ false → IsCompiled bytes file → Format file m
-      → IsProgramOf bytes m
+-- a module, and which lines of its source its code comes from, if it has one
+pub record LinedModule : Type 0 where
+  pub contents : Contents
+  pub lines : List LineEntry
+
+abbrev pub lined : Contents → List LineEntry → LinedModule
+lined m lines = record { contents = m; lines = lines }
+
+-- The bytes are the file of this module, which has no lines, or a source that is compiled to it, which has these.
+pub data IsProgramOf (bytes : List ℕ) (m : LinedModule) : Type 0 where
+  is_module : begins_as_module bytes ≡ true → Format bytes m.contents → m.lines ≡ [] → IsProgramOf bytes m
+  is_source : (file : List ℕ) → begins_as_module bytes ≡ false → IsCompiled bytes file → Format file m.contents
+      → AreLinesOf bytes m.lines → IsProgramOf bytes m
 
 -- The bytes are such a program, of which this holds.
-pub record IsProgramWith (bytes : List ℕ) (holds_of : Contents → Type 0) : Type 0 where
-  pub contents : Contents
-  pub program : IsProgramOf bytes contents
-  pub holds : holds_of contents
+pub record IsProgramWith (bytes : List ℕ) (holds_of : LinedModule → Type 0) : Type 0 where
+  pub lined : LinedModule
+  pub program : IsProgramOf bytes lined
+  pub holds : holds_of lined
 
 -- the run was not brought to a fault
 abbrev pub IsUnharmed : Ending → Type 0
@@ -37,21 +47,23 @@ module _ {F R W : Type 0} (opens : F → Text → Result R FileFault → F → T
     (left : R → Option (List ℕ)) (read_failed : R → Bool) (written : W → Option (List ℕ)) (write_failed : W → Bool)
     (inputs outputs : OnLinks (Option Text)) (limit : Option Text) (before after : F) where
   -- The module's run came to this ending, which this text reports.
-  abbrev pub EndsAs : Contents → Ending → Text → Type 0
+  abbrev pub EndsAs : LinedModule → Ending → Text → Type 0
   EndsAs m ending text =
-      HasRunTo opens creates closes left read_failed written write_failed m inputs outputs limit before after ending text
+      HasRunTo opens creates closes left read_failed written write_failed m.contents inputs outputs limit before after
+      m.lines ending text
 
   -- The module's run came to no fault, and this text reports it.
-  pub record TellsModule (m : Contents) (text : Text) : Type 0 where
+  pub record TellsModule (m : LinedModule) (text : Text) : Type 0 where
     pub ending : Ending
     pub unharmed : IsUnharmed ending
     pub ends : EndsAs m ending text
 
   -- why no run of the module is reported, or how far it came that was brought to a fault
-  abbrev pub WithholdsRun : Contents → Failure → Type 0
+  abbrev pub WithholdsRun : LinedModule → Failure → Type 0
   WithholdsRun m (failures.Faulted fault text) = EndsAs m (endings.Faulted fault.fault) (string_bytes text)
   WithholdsRun m failure =
-      StopsRun opens creates closes left read_failed written write_failed m inputs outputs limit before after failure
+      StopsRun opens creates closes left read_failed written write_failed m.contents inputs outputs limit before after
+      failure
 
   abbrev pub TellsProgram : List ℕ → Text → Type 0
   TellsProgram bytes text = IsProgramWith bytes (λ m. TellsModule m text)

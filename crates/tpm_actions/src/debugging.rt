@@ -19,6 +19,7 @@ use command_line::{LinkPaths, number_in};
 use link_runner::{Halt, Outcome, Report, Tally, drive};
 use machine::{Bounded, Cause, Checked, Observer};
 use machine_state::Fault;
+use source_lines::LineEntry;
 use std::alloc::{AllocError, Global};
 use waiting_texts::{Setting, waiting_lines};
 
@@ -164,25 +165,27 @@ fn report_at(checked: &Checked<'_>, tally: &Tally) -> Report
 fn told(
     alloc: Global,
     module: &Module<'_>,
+    lines: &[LineEntry],
     checked: &Checked<'_>,
     tally: &Tally,
     asked: Debugging<'_>,
     ending: Ending,
 ) -> Result<String, AllocError>
     requires { IsKnown ending checked.now }
-    ensures { IfOk result (λ text. TellsRun «module».now (paths_of asked.entry.inputs) (paths_of asked.entry.outputs)
-        ending checked.now.world tally.now (string_bytes text)) }
+    ensures { IfOk result (λ text. TellsRun «module».now lines.now (paths_of asked.entry.inputs)
+        (paths_of asked.entry.outputs) ending checked.now.world tally.now (string_bytes text)) }
 {
-    let waits = waiting_lines(alloc, module, checked, setting(asked, ending))?;
+    let waits = waiting_lines(alloc, module, lines, checked, setting(asked, ending))?;
     let report = report_at(checked, tally);
     debug_report(alloc, ending, &report, asked.inputs, asked.outputs, &waits)
 }
 
 /// Opens the input files, creates the output files, runs the module on the machine that checks each rule, closes the
-/// output files, and says how far the run came and what each process waits for.
+/// output files, and says how far the run came and what each process waits for, with the lines of its source.
 pub fn debug<'a, F: Files, O: Observer>(
     alloc: Global,
     module: &Module<'_>,
+    lines: &[LineEntry],
     asked: Debugging<'a>,
     observer: O,
     files: &mut F,
@@ -191,8 +194,8 @@ pub fn debug<'a, F: Files, O: Observer>(
         let bytes = option_map (λ text. text.now) asked.entry.bytes in
         MatchResult result
         (λ d. HasRunTo F.opens F.creates F.closes (inside F.Reader.left) (inside F.Reader.failed)
-        (inside F.Writer.written) (inside F.Writer.failed) «module».now ins outs bytes files.old files.new d.ending
-        (string_bytes d.text))
+        (inside F.Writer.written) (inside F.Writer.failed) «module».now ins outs bytes files.old files.new lines.now
+        d.ending (string_bytes d.text))
         (StopsRun F.opens F.creates F.closes (inside F.Reader.left) (inside F.Reader.failed)
         (inside F.Writer.written) (inside F.Writer.failed) «module».now ins outs bytes files.old files.new) }
 {
@@ -201,6 +204,14 @@ pub fn debug<'a, F: Files, O: Observer>(
     let mut machine = Bounded::load(alloc, module, limit(module, asked.bytes), observer)?;
     let mut tally = Tally::at_start(&readers);
     let ending = drive_opened(&mut machine, asked.outputs, files, &mut readers, &mut tally)?;
-    let text = told(alloc, module, machine.checked(), &tally, asked, ending)?;
+    let text = told(
+        alloc,
+        module,
+        lines,
+        machine.checked(),
+        &tally,
+        asked,
+        ending,
+    )?;
     Ok(Debugged { ending, text })
 }

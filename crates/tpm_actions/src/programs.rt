@@ -1,19 +1,23 @@
 //! What is in a file that is a module or a source.
 
-ghost use Rattle.std.specs.Prelude.{◌≡◌, false, option_map, MatchResult, string_bytes};
+ghost use Rattle.std.specs.Prelude.{◌≡◌, false, option_map, IfOk, MatchResult, string_bytes};
 ghost use Rattle.command_line.specs.Links.{paths_of};
 ghost use Rattle.tpm_actions.specs.Extents.{begins_as_module};
 ghost use Rattle.tpm_actions.specs.FilesInOrder.{inside};
-ghost use Rattle.tpm_actions.specs.Programs.{TellsModule, TellsProgram, WithholdsProgram, WithholdsRun};
+ghost use Rattle.compiler.specs.CodeLines.{AreLinesOf};
+ghost use Rattle.tpm_actions.specs.Programs.{lined, TellsModule, TellsProgram, WithholdsProgram, WithholdsRun};
 
 use crate::debugging::{Debugged, Debugging, Ending, debug};
 use crate::extent::begins_as_module;
 use crate::files::Files;
 use crate::report::Failure;
+use crate::tracing::Tracer;
 use certificate::Module;
-use compiler::compile;
+use compiler::{code_lines, compile};
 use machine::Observer;
-use std::alloc::Global;
+use source_lines::LineEntry;
+use std::alloc::{AllocError, Global};
+use std::io::Write;
 use waiting_texts::{FaultText, entry_at};
 
 /// The report of the run of a module on the machine that checks each rule. Where a process is at fault, that is why there
@@ -21,19 +25,21 @@ use waiting_texts::{FaultText, entry_at};
 fn debug_module<'a, F: Files, O: Observer>(
     alloc: Global,
     module: &Module<'_>,
+    lines: &[LineEntry],
     asked: Debugging<'a>,
     observer: O,
     files: &mut F,
 ) -> Result<String, Failure<'a>>
     ensures { let ins = paths_of asked.entry.inputs in let outs = paths_of asked.entry.outputs in
         let limit = option_map (λ text. text.now) asked.entry.bytes in
+        let m = lined «module».now lines.now in
         MatchResult result
         (λ text. TellsModule F.opens F.creates F.closes (inside F.Reader.left) (inside F.Reader.failed)
-        (inside F.Writer.written) (inside F.Writer.failed) ins outs limit files.old files.new «module».now (string_bytes text))
+        (inside F.Writer.written) (inside F.Writer.failed) ins outs limit files.old files.new m (string_bytes text))
         (WithholdsRun F.opens F.creates F.closes (inside F.Reader.left) (inside F.Reader.failed)
-        (inside F.Writer.written) (inside F.Writer.failed) ins outs limit files.old files.new «module».now) }
+        (inside F.Writer.written) (inside F.Writer.failed) ins outs limit files.old files.new m) }
 {
-    let Debugged { ending, text } = debug(alloc, module, asked, observer, files)?;
+    let Debugged { ending, text } = debug(alloc, module, lines, asked, observer, files)?;
     match ending {
         Ending::Over | Ending::Cut => Ok(text),
         Ending::Faulted(fault) => Err(Failure::Faulted {
@@ -46,12 +52,22 @@ fn debug_module<'a, F: Files, O: Observer>(
     }
 }
 
+/// Which lines of a source the code of its module comes from. It is compiled already, so that only memory may run out.
+fn lines_of(alloc: Global, source: &[u8]) -> Result<Vec<LineEntry>, AllocError>
+    ensures { IfOk result (λ lines. AreLinesOf source.now lines.items) }
+{
+    match code_lines(alloc, source) {
+        Ok(lines) => Ok(lines),
+        Err(_) => Err(AllocError),
+    }
+}
+
 /// The same of a source, whose module is not written.
-fn debug_source<'a, F: Files, O: Observer>(
+fn debug_source<'a, F: Files, T: Write + Drop>(
     alloc: Global,
     source: &[u8],
     asked: Debugging<'a>,
-    observer: O,
+    tracer: Tracer<T>,
     files: &mut F,
 ) -> Result<String, Failure<'a>>
     requires { begins_as_module source.now ≡ false }
@@ -64,19 +80,24 @@ fn debug_source<'a, F: Files, O: Observer>(
         (inside F.Writer.written) (inside F.Writer.failed) ins outs limit files.old files.new source.now) }
 {
     let file = compile(alloc, source)?;
+    let table = lines_of(alloc, source)?;
+    let lines = table.as_slice();
     // What is compiled is a module, so it is read unless memory runs out.
     match Module::read(alloc, &file) {
-        Ok(module) => debug_module(alloc, &module, asked, observer, files),
+        Ok(module) => {
+            let observer = tracer.with_lines(lines);
+            debug_module(alloc, &module, lines, asked, observer, files)
+        }
         Err(_) => Err(Failure::Memory),
     }
 }
 
 /// The report of the run of a module or a source on the machine that checks each rule.
-pub fn debug_program<'a, F: Files, O: Observer>(
+pub fn debug_program<'a, F: Files, T: Write + Drop>(
     alloc: Global,
     bytes: &[u8],
     asked: Debugging<'a>,
-    observer: O,
+    tracer: Tracer<T>,
     files: &mut F,
 ) -> Result<String, Failure<'a>>
     ensures { let ins = paths_of asked.entry.inputs in let outs = paths_of asked.entry.outputs in
@@ -88,8 +109,8 @@ pub fn debug_program<'a, F: Files, O: Observer>(
         (inside F.Writer.written) (inside F.Writer.failed) ins outs limit files.old files.new bytes.now) }
 {
     if !begins_as_module(bytes) {
-        return debug_source(alloc, bytes, asked, observer, files);
+        return debug_source(alloc, bytes, asked, tracer, files);
     }
     let module = Module::read(alloc, bytes)?;
-    debug_module(alloc, &module, asked, observer, files)
+    debug_module(alloc, &module, &[], asked, tracer.with_lines(&[]), files)
 }

@@ -16,6 +16,8 @@ use Rattle.machine_state.specs.declared.link.InputLink.{InputLink}
 use Rattle.machine_state.specs.declared.link.OutputLink.{OutputLink}
 use Rattle.machine_state.specs.World.{World}
 use Rattle.link_runs.specs.Deadlocks.{is_deadlock}
+use Rattle.source_lines.specs.declared.entry.LineEntry.{LineEntry}
+use Rattle.source_lines.specs.SourceLines.{lines_text}
 use Rattle.waiting_texts.specs.declared.places.Place.{Place}
 use Rattle.waiting_texts.specs.declared.setting.Setting.{Setting}
 use Rattle.waiting_texts.specs.declared.waits.Wait.{Wait}
@@ -51,23 +53,30 @@ is_over_in m task _ = true
 abbrev pub is_over : Contents → Task → Wait → Bool
 is_over m task wait = is_for_good wait && is_over_in m task task.condition
 
-abbrev pub head_text : Contents → Setting → ℕ → Task → Wait → Text
-head_text m s p task wait =
-    codes "process " ++ (decimal p ++ (codes " at " ++ (six_digits (offset_of task) ++ (codes " "
-    ++ (name_at m (offset_of task) ++ (codes ": " ++ wait_text s wait))))))
+-- which process it is, and where
+abbrev pub place_text : ℕ → ℕ → Text
+place_text p at = codes "process " ++ (decimal p ++ (codes " at " ++ six_digits at))
+
+-- by which instruction it waits, and for what
+abbrev pub named_text : Contents → Setting → ℕ → Wait → Text
+named_text m s at wait = codes " " ++ (name_at m at ++ (codes ": " ++ wait_text s wait))
+
+abbrev pub head_text : Contents → List LineEntry → Setting → ℕ → Task → Wait → Text
+head_text m lines s p task wait =
+    place_text p (offset_of task) ++ (lines_text lines (offset_of task) ++ named_text m s (offset_of task) wait)
 
 abbrev pub tail_text : Contents → World → ℕ → Wait → Text
 tail_text m w p wait = guards_text m.data_words w p wait ++ 10 ∷ []
 
 -- the line of a process, unless it is over
-abbrev pub task_text : Contents → Setting → World → ℕ → Task → Wait → Text
-task_text m s w p task wait =
-    if is_over m task wait then [] else head_text m s p task wait ++ tail_text m w p wait
+abbrev pub task_text : Contents → List LineEntry → Setting → World → ℕ → Task → Wait → Text
+task_text m lines s w p task wait =
+    if is_over m task wait then [] else head_text m lines s p task wait ++ tail_text m w p wait
 
-abbrev pub process_text : Contents → Setting → World → ℕ → Text
-process_text m s w p = elim (slice_get w.tasks p) [
+abbrev pub process_text : Contents → List LineEntry → Setting → World → ℕ → Text
+process_text m lines s w p = elim (slice_get w.tasks p) [
   | None ↦ []
-  | Some task ↦ task_text m s w p task (wait_at w p task.condition)
+  | Some task ↦ task_text m lines s w p task (wait_at w p task.condition)
 ]
 
 -- ---- all processes
@@ -89,8 +98,8 @@ pub record AreInOrder (w : World) (places : List Place) : Type 0 where
   pub all : IsPermutation (places_below w.tasks (length w.tasks)) places
   pub sorted : IsSortedByKey (λ (place : Place). place.workspace) nat_cmp places
 
-abbrev pub processes_text : Contents → Setting → World → List Place → Text
-processes_text m s w places = flat_map (λ (place : Place). process_text m s w place.process) places
+abbrev pub processes_text : Contents → List LineEntry → Setting → World → List Place → Text
+processes_text m lines s w places = flat_map (λ (place : Place). process_text m lines s w place.process) places
 
 -- ---- what is told of the whole
 
@@ -128,8 +137,8 @@ outputs_missing s w =
 abbrev pub summary_text : Setting → World → Text
 summary_text s w = deadlock_text s w ++ (inputs_missing s w ++ outputs_missing s w)
 
--- This text tells what the processes of the world wait for.
-pub record TellsWaits (m : Contents) (s : Setting) (w : World) (text : Text) : Type 0 where
+-- This text tells what the processes of the world wait for, with the lines of these entries.
+pub record TellsWaits (m : Contents) (lines : List LineEntry) (s : Setting) (w : World) (text : Text) : Type 0 where
   pub places : List Place
   pub in_order : AreInOrder w places
-  pub told : text ≡ summary_text s w ++ processes_text m s w places
+  pub told : text ≡ summary_text s w ++ processes_text m lines s w places

@@ -6,7 +6,8 @@ ghost use Rattle.machine_state.specs.Moves.{link_index};
 ghost use Rattle.listings.specs.Listing.{listed_entry};
 ghost use Rattle.waiting_texts.specs.Resting.{IsKnownIf};
 ghost use Rattle.waiting_texts.specs.Waits.{wait_at};
-ghost use Rattle.waiting_texts.specs.Lines.{deadlock_text, head_text, inputs_missing, is_for_good, is_over, is_over_in};
+ghost use Rattle.waiting_texts.specs.Lines.{deadlock_text, head_text, inputs_missing, is_for_good, is_over};
+ghost use Rattle.waiting_texts.specs.Lines.{is_over_in, named_text, place_text};
 ghost use Rattle.waiting_texts.specs.Lines.{missing_input, missing_output, missing_text, outputs_missing};
 ghost use Rattle.waiting_texts.specs.Lines.{process_text, processes_text};
 ghost use Rattle.waiting_texts.specs.Lines.{summary_text, tail_text, task_text, TellsWaits};
@@ -21,6 +22,7 @@ use machine::Checked;
 use machine_state::{Condition, Link, Task};
 use module_format::Tables;
 use prefix_decoder::fetch;
+use source_lines::{LineEntry, push_lines};
 use std::alloc::{AllocError, Global};
 use std::fmt;
 
@@ -58,23 +60,47 @@ fn is_over(tables: &Tables<'_>, task: &Task, wait: Wait) -> bool
     is_for_good(wait) && is_over_in(tables, task)
 }
 
-/// Appends what the line of a process says before its guards.
+/// Appends which process it is, and where.
 #[tactic(auto, using(fact_texts::proofs::SixDigits::six_digits_written))]
+fn push_place(text: &mut String, process: u64, at: u32) -> Result<(), AllocError>
+    ensures { OnOk result (string_bytes text.new ≡ string_bytes text.old ++ place_text process at) }
+{
+    write!(text, "process {process} at {at:06}")
+}
+
+/// Appends by which instruction it waits, and for what.
+fn push_wait(
+    text: &mut String,
+    tables: &Tables<'_>,
+    setting: Setting,
+    at: u32,
+    wait: Wait,
+) -> Result<(), AllocError>
+    ensures { OnOk result (string_bytes text.new
+        ≡ string_bytes text.old ++ named_text (contents_of tables.now) setting at wait) }
+{
+    let name = entry_at(tables, at as usize).name();
+    let wait = WaitText { setting, wait };
+    write!(text, " {name}: {wait}")
+}
+
+/// Appends what the line of a process says before its guards.
 fn push_head(
     text: &mut String,
     tables: &Tables<'_>,
+    lines: &[LineEntry],
     setting: Setting,
     process: u64,
     task: &Task,
     wait: Wait,
 ) -> Result<(), AllocError>
     ensures { OnOk result (string_bytes text.new
-        ≡ string_bytes text.old ++ head_text (contents_of tables.now) setting process task.now wait) }
+        ≡ string_bytes text.old ++ head_text (contents_of tables.now) lines.now setting process task.now wait) }
 {
     let at = offset_of(task);
-    let name = entry_at(tables, at as usize).name();
-    let wait = WaitText { setting, wait };
-    write!(text, "process {process} at {at:06} {name}: {wait}")
+    push_place(text, process, at)?;
+    push_lines(text, lines, at)?;
+    push_wait(text, tables, setting, at, wait)
 }
 
 /// Appends the rest of the line.
@@ -96,6 +122,7 @@ fn push_tail(
 fn push_task(
     text: &mut String,
     tables: &Tables<'_>,
+    lines: &[LineEntry],
     checked: &Checked<'_>,
     setting: Setting,
     process: u64,
@@ -103,13 +130,14 @@ fn push_task(
 ) -> Result<(), AllocError>
     ensures { let m = contents_of tables.now in let w = checked.now.world in
         OnOk result (string_bytes text.new
-        ≡ string_bytes text.old ++ task_text m setting w process task.now (wait_at w process task.now.condition)) }
+        ≡ string_bytes text.old
+        ++ task_text m lines.now setting w process task.now (wait_at w process task.now.condition)) }
 {
     let wait = wait_of(checked, process, task.condition);
     if is_over(tables, task, wait) {
         return text.push_str("");
     }
-    push_head(text, tables, setting, process, task, wait)?;
+    push_head(text, tables, lines, setting, process, task, wait)?;
     push_tail(text, tables, checked, process, wait)
 }
 
@@ -117,15 +145,16 @@ fn push_task(
 fn push_process(
     text: &mut String,
     tables: &Tables<'_>,
+    lines: &[LineEntry],
     checked: &Checked<'_>,
     setting: Setting,
     process: u64,
 ) -> Result<(), AllocError>
-    ensures { OnOk result (string_bytes text.new
-        ≡ string_bytes text.old ++ process_text (contents_of tables.now) setting checked.now.world process) }
+    ensures { OnOk result (string_bytes text.new ≡ string_bytes text.old
+        ++ process_text (contents_of tables.now) lines.now setting checked.now.world process) }
 {
     match checked.task(process) {
-        Some(task) => push_task(text, tables, checked, setting, process, &task),
+        Some(task) => push_task(text, tables, lines, checked, setting, process, &task),
         None => text.push_str(""),
     }
 }
@@ -134,15 +163,16 @@ fn push_process(
 fn push_processes(
     text: &mut String,
     tables: &Tables<'_>,
+    lines: &[LineEntry],
     checked: &Checked<'_>,
     setting: Setting,
     places: &[Place],
 ) -> Result<(), AllocError>
-    ensures { OnOk result (string_bytes text.new
-        ≡ string_bytes text.old ++ processes_text (contents_of tables.now) setting checked.now.world places.now) }
+    ensures { OnOk result (string_bytes text.new ≡ string_bytes text.old
+        ++ processes_text (contents_of tables.now) lines.now setting checked.now.world places.now) }
 {
     for place in places {
-        push_process(text, tables, checked, setting, place.process)?;
+        push_process(text, tables, lines, checked, setting, place.process)?;
     }
     Ok(())
 }
@@ -274,19 +304,21 @@ fn push_summary(
 }
 
 /// What the processes wait for that are not over, in the order of their workspaces, a line for each; and before that
-/// whether they are in a deadlock, and which links are waited for that have no file.
+/// whether they are in a deadlock, and which links are waited for that have no file. The lines of a source, if the
+/// module has one, are those of these entries.
 pub fn waiting_lines(
     alloc: Global,
     module: &Module<'_>,
+    lines: &[LineEntry],
     checked: &Checked<'_>,
     setting: Setting,
 ) -> Result<String, AllocError>
     requires { IsKnownIf setting.is_over checked.now.contents checked.now.world }
-    ensures { IfOk result (λ text. TellsWaits «module».now setting checked.now.world (string_bytes text)) }
+    ensures { IfOk result (λ text. TellsWaits «module».now lines.now setting checked.now.world (string_bytes text)) }
 {
     let mut text = String::new(alloc);
     push_summary(&mut text, checked, &setting)?;
     let places = places_in_order(alloc, checked)?;
-    push_processes(&mut text, module.tables(), checked, setting, &places)?;
+    push_processes(&mut text, module.tables(), lines, checked, setting, &places)?;
     Ok(text)
 }

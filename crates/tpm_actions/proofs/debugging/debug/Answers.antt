@@ -46,7 +46,7 @@ returns g c =
             c.drive_opened.new.files c.open_all.new.readers c.drive_opened.new.machine c.drive_opened.new.tally
             (Ok c.in_ok-ending.ending)) is c.in_ok-ending.ensures;
       };
-      tells = subst (λ (w : World). TellsRun c.args.module.now (paths_of c.args.asked.inputs)
+      tells = subst (λ (w : World). TellsRun c.args.module.now c.args.lines.now (paths_of c.args.asked.inputs)
           (paths_of c.args.asked.outputs) c.in_ok-ending.ending w c.drive_opened.new.tally
           (string_bytes c.in_ok-text.text)) (ap (λ (e : Execution). e.world) c.checked.ensures) c.in_ok-text.ensures;
     }

@@ -20,7 +20,7 @@ returns c =
     let waits = string_bytes c.in_ok-waits.waits in
     if_ok_so c.debug_report.result _ _ (λ text is. record {
       waits = waits;
-      tells = subst (λ (s : Setting). TellsWaits c.args.module.now s c.args.checked.now.world waits) c.setting.ensures
+      tells = subst (λ (s : Setting). TellsWaits c.args.module.now c.args.lines.now s c.args.checked.now.world waits) c.setting.ensures
           c.in_ok-waits.ensures;
       told = is ∙ ap₂ (λ (r : Report) (t : Text). debug_text c.args.ending inputs outputs r t)
           c.report_at-report.ensures c.deref.ensures;

@@ -34,7 +34,7 @@ use Rattle.code_generator.specs.Processes.{process_code, line_code, construct_co
 use Rattle.code_generator.specs.Written.{site_of, Writes, WritesConstruct, WritesSeq, WritesLine, EntersLoop, IsTooMuch}
 use Rattle.code_generator.specs.Written.{Exceeds, entering_code, choice_as, WritesAs, if_at, WritesIf, before_turns}
 use Rattle.code_generator.specs.Written.{ending_at, WritesEnding, WritesSomeTurns, turns_at, WritesTurns}
-use Rattle.code_generator.proofs.ActsWritten.{writes_act, writes_from, writes_instance}
+use Rattle.code_generator.proofs.ActsWritten.{writes_act, writes_from, writes_still, writes_instance}
 use Rattle.code_generator.proofs.Exceeding.{exceeds_from, spent_place}
 use Rattle.code_generator.proofs.PartsExceed.{exceeds_declaring, exceeds_process, exceeds_seq}
 use Rattle.code_generator.proofs.PartsExceed.{exceeds_taken, exceeds_tested, exceeds_other, exceeds_open}
@@ -56,6 +56,15 @@ use Rattle.code_generator.proofs.processes.ProcessWriter.+processes.Goals as goa
 
 pub write-returns-clause-ok : goal.write-returns-clause-ok
 write-returns-clause-ok t c =
+    let here = surroundings_of c.args.around in
+    let p = process_of c.args.process.now in
+    let begun = c.in_ok-before.ensures in
+    writes_still c.in_ok-begin_line.ensures
+    (writes_from (process_code here p) (inside here.around p) begun.listing (spent_place begun)
+    c.in_ok-write_process.ensures.ok)
+
+pub write_process-returns-clause-ok : goal.write_process-returns-clause-ok
+write_process-returns-clause-ok t c =
     let p = c.args.process.now in
     let s = c.args.self.now in
     let final = record c.write_construct.new.self { frame = c.leave.new.self } in
@@ -438,7 +447,7 @@ write_repeated_par-returns t c =
     writes_repeated_par c.args.around c.args.line c.len-names.result r (process_of c.args.process.now)
     (seen_repeats c.repeats_of-repeats.result) c.leave.new.self c.end.new.self counted (search rules) begins named
     c.in_ok-write_components.ensures long c.leave.ensures.homes c.leave.ensures.top c.leave.ensures.outer c.end.ensures
-    c.in_ok-write_fork.ensures
+    c.in_ok-write_turns_fork.ensures
 
 pub write_replicated-returns-in-Par-clause-ok : goal.write_replicated-returns-in-Par-clause-ok
 write_replicated-returns-in-Par-clause-ok t c =
@@ -451,8 +460,18 @@ write_replicated-returns-in-Par-clause-ok t c =
 
 -- ---- what is too much
 
-pub write-returns-in_err-declare_all-clause-limit : goal.write-returns-in_err-declare_all-clause-limit
-write-returns-in_err-declare_all-clause-limit t c = λ e.
+pub write-returns-in_err-write_process-clause-limit : goal.write-returns-in_err-write_process-clause-limit
+write-returns-in_err-write_process-clause-limit t c = λ e.
+    let s = c.args.self.now in
+    let here = surroundings_of c.args.around in
+    let begun = c.in_ok-before.ensures in
+    let fault = handed_on c.from_residual-in_err-write_process.result c.in_err-write_process.field-0.0 Limit
+    c.from_residual-in_err-write_process.ensures.1 e in
+    exceeds_from c.args.around.limits s c.begin_line.new.self (process_code here (process_of c.args.process.now))
+    begun.listing (spent_place begun) (c.in_err-write_process.ensures.limit (ap Err fault))
+
+pub write_process-returns-in_err-declare_all-clause-limit : goal.write_process-returns-in_err-declare_all-clause-limit
+write_process-returns-in_err-declare_all-clause-limit t c = λ e.
     let p = c.args.process.now in
     let s = c.args.self.now in
     let ds = map declaration_of c.deref.result.now in
@@ -465,8 +484,9 @@ write-returns-in_err-declare_all-clause-limit t c = λ e.
     ((λ i. with_declarations (map declaration_of (c.deref.ensures.value i))
     (Does p.line (construct_of p.construct.value))) ∙ view) (c.in_err-declare_all.ensures.limit (ap Err fault))
 
-pub write-returns-in_err-write_construct-clause-limit : goal.write-returns-in_err-write_construct-clause-limit
-write-returns-in_err-write_construct-clause-limit t c = λ e.
+pub write_process-returns-in_err-write_construct-clause-limit :
+    goal.write_process-returns-in_err-write_construct-clause-limit
+write_process-returns-in_err-write_construct-clause-limit t c = λ e.
     let p = c.args.process.now in
     let s = c.args.self.now in
     let inside = c.in_ok-inside.inside in

@@ -29,7 +29,10 @@ abbrev pub decreases-write_repeated_alt : goal.decreases-write_repeated_alt
 decreases-write_repeated_alt l = 16 * l.around.deeper + 13
 
 abbrev pub decreases-write : goal.decreases-write
-decreases-write l = 16 * l.around.deeper
+decreases-write l = 16 * l.around.deeper + 1
+
+abbrev pub decreases-write_process : goal.decreases-write_process
+decreases-write_process l = 16 * l.around.deeper
 
 abbrev pub decreases-write_tested : goal.decreases-write_tested
 decreases-write_tested l = 16 * l.around.deeper + 10
