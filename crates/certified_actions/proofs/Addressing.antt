@@ -1,22 +1,21 @@
 -- Addresses of elements that code leaves, each of which may lead to several of them.
 use Rattle.std.proofs.Common.{◌≡◌, ℕ, ◌+◌, ◌*◌, ◌/◌, ◌%◌, ◌<◌, ◌≤◌, ℤ, pos, ◌+ℤ◌, ◌*ℤ◌}
 use Rattle.std.proofs.Common.{Bool, true, false, cond, nat_eq, List, [], ◌∷◌, ◌++◌}
-use Rattle.std.proofs.Common.{Ok, Err, refl, sym, ap, subst, ◌∙◌, arith}
+use Rattle.std.proofs.Common.{Ok, refl, sym, ap, subst, ◌∙◌, arith}
 use Rattle.std.proofs.lemmas.Int.{ints}
 use Rattle.std.proofs.lemmas.Bool.{eqb-true}
 use Rattle.module_format.specs.declared.fact.Fact.TheVariants.{Pointer}
 use Rattle.module_format.specs.declared.fact.Region.TheVariants as regions
 use Rattle.module_format.specs.declared.fact.Step.{Step}
-use Rattle.module_format.specs.declared.fact.Step.TheVariants.{Byte, Word as WordStep}
+use Rattle.module_format.specs.declared.fact.Step.TheVariants.{Word as WordStep}
 use Rattle.module_format.specs.declared.limits.TheConstants.{MAX_DATA_WORDS}
 use Rattle.word_arithmetic.specs.Range as ranges
 use Rattle.word_arithmetic.specs.Range.{Ends, full}
-use Rattle.states.specs.declared.rule.Rule.TheVariants as rules
 use Rattle.states.specs.State.{known}
 use Rattle.rulings.specs.declared.pointers.Pointed.{Pointed}
 use Rattle.rulings.specs.Pointers.{are_near, pointer_of, bounds_of}
-use Rattle.local_rules.specs.MemoryRules.{near_fact, element_of, step_after}
-use Rattle.local_rules.specs.WordRules.{number_in, known_constant}
+use Rattle.local_rules.specs.MemoryRules.{step_after}
+use Rattle.local_rules.specs.WordRules.{known_constant}
 use Rattle.occam_parser.specs.declared.tree.ValueType.{ValueType}
 use Rattle.occam_parser.specs.declared.tree.ValueType.TheVariants as value_type
 use Rattle.code_pieces.specs.declared.operations.TheConstants.{BYTE_SUBSCRIPT}
@@ -28,7 +27,7 @@ use Rattle.certified_lines.specs.Telling.{StayBefore, IsLike, PushedFact}
 use Rattle.certified_lines.proofs.StraightRules.{fall_both}
 use Rattle.certified_lines.proofs.Instructions.{addresses_are_known, constants_are_known}
 use Rattle.certified_lines.proofs.Addresses.{selected_words_are_known, selected_bytes_are_known}
-use Rattle.certified_lines.proofs.Elements.{both_near, pointer_is}
+use Rattle.certified_lines.proofs.Elements.{both_near, bounds_are, element_bytes, element_words, pointer_is, word_is}
 use Rattle.certified_lines.proofs.Telling.{few_counted, like_of, stay_alike}
 
 -- Pieces push an address of bytes of the frame, from the one to the other. What is known of words before t stays, and
@@ -68,39 +67,7 @@ word_addressed g w t small s few = record {
   below = λ is. like_of refl;
 }
 
--- a word so many words further is one of the frame
-pub word_is : (w n : ℕ) → w + n < MAX_DATA_WORDS → word_after w n ≡ w + n
-unfolding word_after
-word_is w n few = few_counted (w + n) few
-
 -- ---- by a subscript
-
-near_made : (lo hi : ℤ) (step : Step) → are_near lo hi ≡ true
-    → near_fact regions.Frame lo hi step ≡ Ok (Pointer regions.Frame lo hi step)
-unfolding near_fact
-near_made lo hi step near =
-    ap (λ (b : Bool). cond b (Ok (Pointer regions.Frame lo hi step)) (Err rules.Pointer)) near
-
-bounds_are : (r : Ends) → bounds_of (number_in r) ≡ Ok (record { lo = r.lo; hi = r.hi })
-unfolding bounds_of
-bounds_are r = refl
-
--- the words that a number selects behind a word
-word_selected : (w : ℕ) (r : Ends) (lo hi : ℤ) → pos (4 * w) +ℤ (pos 4 *ℤ r.lo) ≡ lo
-    → pos (4 * w) +ℤ (pos 4 *ℤ r.hi) ≡ hi → are_near lo hi ≡ true
-    → element_of WordStep (at_word w) (record { lo = r.lo; hi = r.hi }) ≡ Ok (Pointer regions.Frame lo hi WordStep)
-unfolding element_of
-word_selected w r lo hi p q near =
-    (λ i. near_fact regions.Frame (p i) (q i) WordStep) ∙ near_made lo hi WordStep near
-
--- and the bytes
-byte_selected : (w : ℕ) (r : Ends) (lo hi : ℤ) → pos (4 * w) +ℤ r.lo ≡ lo → pos (4 * w) +ℤ r.hi ≡ hi
-    → are_near lo hi ≡ true → element_of Byte (at_word w) (record { lo = r.lo; hi = r.hi })
-    ≡ Ok (Pointer regions.Frame lo hi (step_after WordStep (record { lo = r.lo; hi = r.hi })))
-unfolding element_of
-byte_selected w r lo hi p q near =
-    let step = step_after WordStep (record { lo = r.lo; hi = r.hi }) in
-    (λ i. near_fact regions.Frame (p i) (q i) step) ∙ near_made lo hi step near
 
 -- the step of an address that a subscript makes
 abbrev pub step_by : ValueType → Ends → Step
@@ -127,7 +94,7 @@ module _ (g : Setting) (ps : List Piece) (t w : ℕ) (leaf small : Bool) (r : En
         (fall_both (addresses_are_known g w p.after (few_counted w few) (omega (arith, few)))
         (selected_words_are_known g (record { lo = r.lo; hi = r.hi }) (at_word w) (Pointer regions.Frame lo hi WordStep)
         there (ap bounds_of p.a ∙ bounds_are r) (word_pointed w (omega (arith, few)))
-        (word_selected w r lo hi low high near)));
+        (element_words regions.Frame (4 * w) r lo hi low high near)));
     a = refl;
     stay = p.stay;
     below = λ is. p.below is;
@@ -140,7 +107,7 @@ module _ (g : Setting) (ps : List Piece) (t w : ℕ) (leaf small : Bool) (r : En
             (fall_both (addresses_are_known g w p.after (few_counted w few) (omega (arith, few)))
             (selected_bytes_are_known g (record { lo = r.lo; hi = r.hi }) (at_word w) fact there
             (ap bounds_of p.a ∙ bounds_are r) (word_pointed w (omega (arith, few)))
-            (byte_selected w r lo hi low high near)));
+            (element_bytes (4 * w) r lo hi low high near)));
         a = refl;
         stay = p.stay;
         below = λ is. p.below is;

@@ -1,31 +1,40 @@
 -- The words that bytes of the frame are in.
-use Rattle.std.proofs.Common.{◌≡◌, ℕ, suc, ◌+◌, ◌*◌, ◌/◌, ◌-◌, ◌<◌, ◌≤◌, ℤ, pos, ◌+ℤ◌, ◌-ℤ◌, nat_abs, Bool, true}
-use Rattle.std.proofs.Common.{ap, subst, ◌∙◌, arith}
+use Rattle.std.proofs.Common.{◌≡◌, ℕ, suc, ◌+◌, ◌*◌, ◌/◌, ◌-◌, ◌<◌, ◌≤◌, ℤ, pos, ◌+ℤ◌, Bool, true}
+use Rattle.std.proofs.Common.{ap, refl, subst, ◌∙◌, arith}
 use Rattle.std.proofs.lemmas.Int.{ints}
 use Rattle.module_format.specs.declared.fact.Region.TheVariants as regions
 use Rattle.certificate.specs.Rights.{may_read_word, may_write_word}
 use Rattle.certificate.specs.Words.{all_words}
+use Rattle.module_format.specs.declared.limits.TheConstants.{MAX_DATA_WORDS}
+use Rattle.occam_parser.specs.declared.tree.ValueType.{ValueType}
+use Rattle.occam_parser.specs.declared.tree.ValueType.TheVariants as value_type
+use Rattle.program_meaning.specs.Links.{message_length}
+use Rattle.rulings.specs.Pointers.{are_near}
 use Rattle.rulings.specs.Reach.{may_read_bytes, may_write_bytes, word_of_byte, words_touched}
 use Rattle.certified_lines.specs.StraightRules.{Setting}
 use Rattle.certified_lines.specs.Addresses.{MayReadBytes, MayWriteBytes}
 use Rattle.certified_lines.specs.Instructions.{MayRead, MayWrite}
-use Rattle.certified_lines.proofs.Elements.{all_pass}
+use Rattle.certified_lines.proofs.Elements.{all_pass, both_near, bytes_touched}
 
--- how many words have bytes from the one to the other
-pub bytes_touch : (first last : ℕ) → first ≤ last → words_touched (pos first) (pos last +ℤ pos 1)
-    ≡ suc (last / 4 - first / 4)
-bytes_touch first last up =
-    let end : pos last +ℤ pos 1 -ℤ pos 1 ≡ pos last = omega (arith, ints) in
-    let apart : pos (last / 4) -ℤ pos (first / 4) ≡ pos (last / 4 - first / 4) = omega (arith, ints, up) in
-    let more : last / 4 - first / 4 + 1 ≡ suc (last / 4 - first / 4) = omega arith in
-    ap (λ (z : ℤ). nat_abs (word_of_byte z -ℤ word_of_byte (pos first)) + 1) end
-    ∙ (ap (λ (z : ℤ). nat_abs z + 1) apart ∙ more)
+-- messages have no more bytes than a word
+abbrev pub more_bytes : (type : ValueType) → (m : ℕ) × (message_length type ≡ suc m) × (suc m ≤ 4)
+more_bytes value_type.Int = (3, refl, omega arith)
+more_bytes value_type.Byte = (0, refl, omega arith)
 
 -- a message that begins in one of some bytes is in these words of an array
 pub record LiesIn (w count first last m : ℕ) : Type 0 where
   pub up : first ≤ last
   pub low : 4 * w ≤ first
   pub high : last + m < 4 * (w + count)
+
+-- so addresses from the one to the other are near
+pub lies_near : {w count first last m : ℕ} → w + count ≤ MAX_DATA_WORDS → LiesIn w count first last m
+    → are_near (pos first) (pos last) ≡ true
+lies_near {w} {count} {first} {last} {m} few lies =
+    let up = lies.up in
+    let high = lies.high in
+    both_near (pos first) (pos last) (omega (arith, ints)) (omega (arith, ints, few, up, high)) (omega (arith, ints))
+    (omega (arith, ints, few, high))
 
 -- a test that the words of bytes pass
 bytes_pass : (test : ℤ → Bool) (first last m : ℕ) → first ≤ last
@@ -34,7 +43,7 @@ bytes_pass : (test : ℤ → Bool) (first last m : ℕ) → first ≤ last
 bytes_pass test first last m up each =
     let end : pos last +ℤ pos (suc m) ≡ pos (last + m) +ℤ pos 1 = omega (arith, ints) in
     ap (λ (n : ℕ). all_words test (pos (first / 4)) n)
-    (ap (words_touched (pos first)) end ∙ bytes_touch first (last + m) (omega (arith, up)))
+    (ap (words_touched (pos first)) end ∙ bytes_touched first (last + m) (omega (arith, up)))
     ∙ all_pass test (first / 4) (suc ((last + m) / 4 - first / 4))
     (λ n less. each (first / 4 + n) (omega arith) (omega (arith, less, up)))
 

@@ -32,15 +32,16 @@ use Rattle.certified_lines.specs.MovingWords.{MovedWords}
 use Rattle.certified_lines.specs.Scopes.{Scene, IsNumber, HoldsScope, IsScope}
 use Rattle.certified_lines.specs.Telling.{IsWhole, IsAllowed, AreAllowed, IsFree}
 use Rattle.certified_lines.proofs.StraightRules.{fall_both}
-use Rattle.certified_lines.proofs.Elements.{both_near}
+use Rattle.certified_lines.proofs.Elements.{word_is}
 use Rattle.certified_lines.proofs.Instructions.{stored_words_are_known, waiting_is_known_below}
 use Rattle.certified_lines.proofs.MovingWords.{moved_words_are_known}
 use Rattle.certified_lines.proofs.Operands.{allowed_first, stored_stay, stored_there}
 use Rattle.certified_actions.specs.Keeping.{NumbersStay, NumbersStayBefore}
 use Rattle.certified_actions.specs.Variables.{IsSelected}
-use Rattle.certified_actions.proofs.Addressing.{Addressed, word_is, step_by, subscript_addressed, element_byte}
+use Rattle.certified_actions.proofs.Addressing.{Addressed, step_by, subscript_addressed, element_byte}
 use Rattle.certified_actions.proofs.Addressing.{element_word, known_addressed}
-use Rattle.certified_actions.proofs.Elements.{several, words_near, array_after}
+use Rattle.certified_actions.proofs.Bytes.{lies_near}
+use Rattle.certified_actions.proofs.Elements.{array_after, bytes_spread, several, words_near}
 use Rattle.certified_actions.proofs.Keeping.{before_stays, numbers_both, numbers_spared, in_span_is, kept_numbers_hold}
 use Rattle.certified_actions.proofs.Storing.{Stored, IsKnownArray, word_stored, byte_stored}
 
@@ -271,26 +272,24 @@ module _ (g : Scene) (top next w size : ℕ) (es : List Entry) (e : Expression) 
   selected_at value_type.Byte s few held all_of first all =
       let r = all_of.range in
       let p = all_of.tells next (omega (arith, later)) next_free all s held in
-      let sel = several size (pos 0) r all_of.select all_of.several in
-      let lo_is = sel.lo in
-      let hi_is = sel.hi in
-      let inside = sel.inside in
-      let start = 4 * w + sel.first in
-      let end = 4 * w + (sel.first + suc sel.more) in
-      let low : pos (4 * w) +ℤ r.lo ≡ pos start = omega (arith, ints, lo_is) in
-      let high : pos (4 * w) +ℤ r.hi ≡ pos end = omega (arith, ints, hi_is) in
-      let near = both_near (pos start) (pos end) (omega (arith, ints)) (omega (arith, ints, few, inside))
-      (omega (arith, ints)) (omega (arith, ints, few, inside)) in
+      let spread = bytes_spread value_type.Byte w size r few all_of.select in
+      let start = spread.first in
+      let end = spread.last in
+      let lies = spread.lies in
+      let up = lies.up in
+      let low = lies.low in
+      let high = lies.high in
       record {
         lo = pos start;
         hi = pos end;
         step = step_by value_type.Byte r;
         addressed = subscript_addressed g.setting (expression_code g.homes es next e) next w all_of.leaf
             (is_small es e) r
-            s (pos start) (pos end) (omega (arith, few, inside)) near p value_type.Byte low high;
+            s (pos start) (pos end) (omega (arith, few, up, low, high)) (lies_near few lies) p value_type.Byte
+            spread.low spread.high;
         finish = λ z known a b.
             byte_stored g.setting (λ n. n < top) w (words_for value_type.Byte size) z known q ranged b
-            (step_by value_type.Byte r) start end a (omega arith) (omega arith) (omega (arith, inside));
+            (step_by value_type.Byte r) start end a up low (omega (arith, high));
       }
 
   other_by : (type : ValueType) (small : Bool) → is_small es e ≡ small → w + words_for type size ≤ top

@@ -1,10 +1,8 @@
 -- Elements of arrays of a scope: what is known of the array's words, and where a subscript leads.
-use Rattle.std.proofs.Common.{◌≡◌, ℕ, suc, ◌+◌, ◌*◌, ◌<◌, ◌≤◌, ℤ, pos, ◌+ℤ◌, ◌-ℤ◌, ◌*ℤ◌}
-use Rattle.std.proofs.Common.{Bool, true, false, List, Option, Some, None, refl, ap, subst}
+use Rattle.std.proofs.Common.{◌≡◌, ℕ, zero, suc, ◌+◌, ◌*◌, ◌<◌, ◌≤◌, ℤ, pos, ◌+ℤ◌, ◌*ℤ◌}
+use Rattle.std.proofs.Common.{true, List, Option, Some, None, refl, ap, subst}
 use Rattle.std.proofs.Common.{◌∙◌, arith}
-use Rattle.std.specs.Prelude.{int_lt}
 use Rattle.std.proofs.lemmas.Int.{ints}
-use Rattle.small_laws.proofs.Comparisons.{int_lt-true, int_lt-false}
 use Rattle.module_format.specs.declared.limits.TheConstants.{MAX_DATA_WORDS}
 use Rattle.word_arithmetic.specs.Range.{Ends, full}
 use Rattle.rulings.specs.Pointers.{are_near}
@@ -14,17 +12,17 @@ use Rattle.occam_parser.specs.declared.tree.ValueType.TheVariants as value_type
 use Rattle.occam_parser.specs.Expressions.{Expression}
 use Rattle.occam_parser.specs.Lines.{Place}
 use Rattle.scalar_ranges.specs.Bounds.{bound_of, range_found}
-use Rattle.scalar_ranges.specs.Entries.{Meaning, Array, Entry, meaning_in}
+use Rattle.scalar_ranges.specs.Entries.{Meaning, Entry, meaning_in}
 use Rattle.line_pieces.specs.Actions.{KnownElement, OtherElement, target_of, by_number, element_target}
 use Rattle.line_pieces.specs.Expressions.{single, subscript_of}
 use Rattle.line_pieces.specs.Homes.{Home, Word, words_for}
 use Rattle.certified_lines.specs.ElementLaws.{IsArray, Select}
-use Rattle.certified_lines.specs.Scopes.{Scene, IsNumber, AreKnownThere, HoldsScope, IsHousedThere, IsScope}
-use Rattle.certified_lines.proofs.Elements.{as_natural, both_near}
-use Rattle.certified_lines.proofs.Telling.{name_has}
+use Rattle.certified_lines.specs.Scopes.{Scene, HoldsScope, IsScope}
+use Rattle.certified_lines.proofs.Elements.{Selected, array_housed, array_numbers, both_near, selected}
 use Rattle.certified_actions.specs.Keeping.{NumbersStayBefore}
 use Rattle.certified_actions.specs.Variables.{IsOwnArray}
-use Rattle.certified_actions.proofs.Addressing.{element_word}
+use Rattle.certified_actions.proofs.Addressing.{element_word, scaled}
+use Rattle.certified_actions.proofs.Bytes.{LiesIn, more_bytes}
 use Rattle.certified_actions.proofs.Storing.{IsKnownArray}
 
 -- a place that is an element
@@ -36,19 +34,7 @@ element name e = record { name = name; subscript = Some e }
 -- an array's words lie before the first free one
 pub array_below : (g : Scene) (top : ℕ) (es : List Entry) (name : List ℕ) (type : ValueType) (size w : ℕ) (range : Ends)
     → IsScope g top es → IsArray g es name type (Word w) size range → w + words_for type size ≤ top
-array_below g top es name type size w range scope x =
-    let k : Meaning = Array x.kind type (Some size) range in
-    (subst (λ (o : Option Home). IsHousedThere g top o k) x.at
-    (name_has (IsHousedThere g top) g.homes es name k scope.housed x.means)).1
-
--- what is known of them
-pub array_numbers : (g : Scene) (es : List Entry) (name : List ℕ) (type : ValueType) (size w : ℕ) (range : Ends)
-    (f : Facts) → IsArray g es name type (Word w) size range → HoldsScope g es f → (n : ℕ) → n < words_for type size
-    → IsNumber f (w + n) full
-array_numbers g es name type size w range f x holds =
-    let k : Meaning = Array x.kind type (Some size) range in
-    subst (λ (o : Option Home). AreKnownThere g f o k) x.at
-    (name_has (AreKnownThere g f) g.homes es name k holds x.means)
+array_below g top es name type size w range scope x = (array_housed g top es name type size w range scope x).1
 
 -- so numbers may be stored in an array that can change
 pub array_known : (g : Scene) (top : ℕ) (es : List Entry) (name : List ℕ) (type : ValueType) (size w : ℕ) (f : Facts)
@@ -97,31 +83,59 @@ pub record Several (size : ℕ) (c : ℤ) (r : Ends) : Type 0 where
   pub hi : r.hi +ℤ c ≡ pos (first + suc more)
   pub inside : first + suc more < size
 
-several_by : (less : Bool) (size : ℕ) (c : ℤ) (r : Ends) → int_lt r.lo r.hi ≡ less → Select size c r
-    → (r.lo ≡ r.hi → ⊥) → Several size c r
-several_by true size c r test s differ =
-    let start = s.first in
-    let end = s.last in
-    let order = int_lt-true r.lo r.hi test in
-    let first = as_natural (r.lo +ℤ c) start in
-    let first_is = first.1 in
-    let more = as_natural (r.hi -ℤ r.lo -ℤ pos 1) (omega (arith, ints, order)) in
-    let more_is = more.1 in
-    record {
-      first = first.0;
-      more = more.0;
-      lo = first_is;
-      hi = omega (arith, ints, first_is, more_is);
-      inside = omega (arith, ints, first_is, more_is, end);
-    }
-several_by false size c r test s differ =
-    let up = int_lt-false r.lo r.hi test in
-    let order = s.ranged.ordered in
-    absurd (differ (omega (arith, ints, up, order)))
+several_by : (n size : ℕ) (c : ℤ) (r : Ends) (s : Selected size c r) → s.more ≡ n → (r.lo ≡ r.hi → ⊥)
+    → Several size c r
+several_by zero size c r s is differ =
+    let lo = s.lo in
+    let hi = s.hi in
+    absurd (differ (omega (arith, ints, lo, hi, is)))
+several_by (suc more) size c r s is differ = record {
+  first = s.first;
+  more = more;
+  lo = s.lo;
+  hi = subst (λ (n : ℕ). r.hi +ℤ c ≡ pos (s.first + n)) is s.hi;
+  inside = subst (λ (n : ℕ). s.first + n < size) is s.inside;
+}
 
 -- numbers that are not one alone select several elements
 pub several : (size : ℕ) (c : ℤ) (r : Ends) → Select size c r → (r.lo ≡ r.hi → ⊥) → Several size c r
-several size c r s differ = several_by (int_lt r.lo r.hi) size c r refl s differ
+several size c r s differ = let all = selected size c r s in several_by all.more size c r all refl differ
+
+-- The bytes that numbers select behind a word, from the first to the last one where an element begins. Each of these lies
+-- in words of the array.
+pub record Spread (type : ValueType) (w size : ℕ) (r : Ends) : Type 0 where
+  pub first : ℕ
+  pub last : ℕ
+  pub low : pos (4 * w) +ℤ scaled type r.lo ≡ pos first
+  pub high : pos (4 * w) +ℤ scaled type r.hi ≡ pos last
+  pub lies : LiesIn w (words_for type size) first last (more_bytes type).0
+
+pub bytes_spread : (type : ValueType) (w size : ℕ) (r : Ends) → w + words_for type size ≤ MAX_DATA_WORDS
+    → Select size (pos 0) r → Spread type w size r
+bytes_spread value_type.Int w size r few select =
+    let sel = selected size (pos 0) r select in
+    let lo_is = sel.lo in
+    let hi_is = sel.hi in
+    let inside = sel.inside in
+    record {
+      first = 4 * (w + sel.first);
+      last = 4 * (w + (sel.first + sel.more));
+      low = omega (arith, ints, lo_is);
+      high = omega (arith, ints, hi_is);
+      lies = record { up = omega arith; low = omega arith; high = omega (arith, inside) };
+    }
+bytes_spread value_type.Byte w size r few select =
+    let sel = selected size (pos 0) r select in
+    let lo_is = sel.lo in
+    let hi_is = sel.hi in
+    let inside = sel.inside in
+    record {
+      first = 4 * w + sel.first;
+      last = 4 * w + (sel.first + sel.more);
+      low = omega (arith, ints, lo_is);
+      high = omega (arith, ints, hi_is);
+      lies = record { up = omega arith; low = omega arith; high = omega (arith, inside) };
+    }
 
 -- addresses of several words of an array are near, also before a constant is added
 pub words_near : (w size : ℕ) (c : ℤ) (r : Ends) → w + size ≤ MAX_DATA_WORDS → Select size c r

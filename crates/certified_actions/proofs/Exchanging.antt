@@ -1,5 +1,5 @@
 -- What is known where a message is exchanged over a link, and that scheduling disturbs no scope.
-use Rattle.std.proofs.Common.{◌≡◌, ℕ, zero, suc, ◌+◌, ◌/◌, ◌-◌, ◌<◌, ◌≤◌, ◌⊎◌, inl, inr, ℤ, pos, negsuc, ◌+ℤ◌, ◌-ℤ◌}
+use Rattle.std.proofs.Common.{◌≡◌, ℕ, suc, ◌+◌, ◌/◌, ◌-◌, ◌<◌, ◌≤◌, ◌⊎◌, inl, inr, ℤ, pos, negsuc, ◌+ℤ◌, ◌-ℤ◌}
 use Rattle.std.proofs.Common.{◌*ℤ◌, Bool, true, false, cond, not, ◌||◌, nat_eq, List, [], ◌∷◌, ◌++◌, length, Option}
 use Rattle.std.proofs.Common.{Some, None, Ok, Err, refl, sym, ap, subst, ◌∙◌, arith}
 use Rattle.std.specs.Prelude.{slice_get, int_lt}
@@ -15,15 +15,13 @@ use Rattle.module_format.specs.declared.fact.Region.TheVariants as regions
 use Rattle.module_format.specs.declared.fact.Step.{Step}
 use Rattle.module_format.specs.declared.rows.Direction.{Direction}
 use Rattle.module_format.specs.declared.rows.Direction.TheVariants.{In, Out}
-use Rattle.states.specs.declared.known.WordFact.{WordFact}
 use Rattle.states.specs.declared.rule.Rule.TheVariants as rules
-use Rattle.states.specs.Spans.{together, with_one}
-use Rattle.states.specs.State.{Facts, is_same_number, known, one_word, with_fact}
+use Rattle.states.specs.Spans.{together}
+use Rattle.states.specs.State.{Facts, known, one_word, with_fact}
 use Rattle.rulings.specs.declared.pointers.Pointed.{Pointed}
 use Rattle.rulings.specs.Filling.{are_numbers}
 use Rattle.rulings.specs.Pointers.{are_near, byte_read, is_number_in, takes_any}
 use Rattle.rulings.specs.Reach.{word_of_byte, words_touched}
-use Rattle.rulings.proofs.Words.{word_test}
 use Rattle.local_rules.specs.MemoryRules.{is_of_a_word, shifted, word_fact}
 use Rattle.local_rules.specs.WordRules.{known_constant}
 use Rattle.message_rules.specs.MessageRules.{begins_behind, ends_before, is_off_scheduling}
@@ -43,31 +41,30 @@ use Rattle.certified_lines.specs.Addresses.{told_state, MayReadBytes, MayWriteBy
 use Rattle.certified_lines.specs.Scopes.{Scene, EachNameHas, IsNumber, HoldsScope}
 use Rattle.certified_lines.proofs.StraightRules.{fall_both}
 use Rattle.certified_lines.proofs.Addresses.{further_addresses_are_known}
+use Rattle.certified_lines.proofs.Elements.{bytes_touched}
 use Rattle.certified_lines.proofs.Instructions.{constants_are_known, least_word_is_known}
+use Rattle.certified_lines.proofs.MovingWords.{all_numbers_here, or_second}
+use Rattle.certified_lines.proofs.Operands.{other_word}
 use Rattle.certified_actions.specs.Exchanging.{IsOff, IsPort, IsUndisturbed, RootsAreUndisturbed}
 use Rattle.certified_actions.specs.Keeping.{NumbersStay, WordsThere}
-use Rattle.certified_actions.specs.Messages.{exchanged, link_address, scheduled, with_received}
-use Rattle.certified_actions.proofs.Bytes.{bytes_touch}
+use Rattle.certified_actions.specs.Messages.{MayExchange, exchanged, link_address, scheduled, with_received}
+use Rattle.certified_actions.proofs.Bytes.{more_bytes}
 use Rattle.certified_actions.proofs.Keeping.{numbers_both, numbers_kept, untouched_stay}
 use Rattle.certified_actions.proofs.Messages.{received_bytes_are_known, sent_bytes_are_known}
-use Rattle.certified_actions.proofs.Storing.{or_second}
 
 -- ---- scheduling
 
 -- a word that is none of the three below the workspace
-other_word : (depth v n : ℕ) → n < 3 → IsOff depth v → pos v ≡ pos depth +ℤ negsuc n → ⊥
-other_word depth v n less (inl before) same = absurd (omega (arith, ints, less, before, same))
-other_word depth v n less (inr behind) same = absurd (omega (arith, ints, less, behind, same))
-
-not_at : (k z : ℤ) → (k ≡ z → ⊥) → is_same_number k z ≡ false
-not_at k z apart = elim (word_test k z) [ inl same ↦ absurd (apart same.1) | inr other ↦ other.0 ]
+off_word : (depth v n : ℕ) → n < 3 → IsOff depth v → pos v ≡ pos depth +ℤ negsuc n → ⊥
+off_word depth v n less (inl before) same = absurd (omega (arith, ints, less, before, same))
+off_word depth v n less (inr behind) same = absurd (omega (arith, ints, less, behind, same))
 
 -- where nothing is known of one word any more, those of other words stay
 silent_stays : (depth n : ℕ) (f : Facts) → n < 3
     → NumbersStay (IsOff depth) f (with_fact (pos depth +ℤ negsuc n) Unknown f)
 silent_stays depth n f less =
     let at : ℤ = pos depth +ℤ negsuc n in
-    untouched_stay (IsOff depth) (one_word at Unknown) f (λ k off. not_at (pos k) at (other_word depth k n less off))
+    untouched_stay (IsOff depth) (one_word at Unknown) f (λ k off. other_word (pos k) at (off_word depth k n less off))
 
 -- so those beside the three words stay
 pub scheduling_stays : (depth : ℕ) (f : Facts) → NumbersStay (IsOff depth) f (scheduled depth f)
@@ -154,14 +151,6 @@ off_is g s first last m step up off =
         or_second (ends_before (pos g.depth) (pos last +ℤ pos (suc m))) (begins_behind (pos g.depth) (pos first))
         (le-int_le (pos g.depth) (pos (first / 4)) (omega (arith, ints, behind)))
 
--- words that are numbers, together
-pub all_numbers : (f : Facts) (first count : ℕ)
-    → ((n : ℕ) → n < count → (r : Ends) × IsNumber f (first + n) r) → (together f (pos first) count).are_numbers ≡ true
-all_numbers f first zero each = refl
-all_numbers f first (suc more) each =
-    ap (λ (w : WordFact). (with_one w (together f (pos first) more)).are_numbers) (each more (omega arith)).1
-    ∙ all_numbers f first more (λ n less. each n (omega (arith, less)))
-
 -- bytes of words that are numbers
 pub numbers_are : (g : Setting) (s : Told) (first last m : ℕ) (step : Step) → first ≤ last
     → ((v : ℕ) → first / 4 ≤ v → v ≤ (last + m) / 4 → (r : Ends) × IsNumber s.frame v r)
@@ -172,8 +161,8 @@ numbers_are g s first last m step up each =
     let end : pos last +ℤ pos (suc m) -ℤ pos 1 +ℤ pos 1 ≡ pos (last + m) +ℤ pos 1 = omega (arith, ints) in
     ap (λ (b : Bool). is_number_in full (cond (not b) Unknown (Number (pos 0) (pos 255))))
     (ap (λ (n : ℕ). (together s.frame (pos (first / 4)) n).are_numbers)
-    (ap (words_touched (pos first)) end ∙ bytes_touch first (last + m) (omega (arith, up)))
-    ∙ all_numbers s.frame (first / 4) (suc ((last + m) / 4 - first / 4))
+    (ap (words_touched (pos first)) end ∙ bytes_touched first (last + m) (omega (arith, up)))
+    ∙ all_numbers_here s.frame (first / 4) (suc ((last + m) / 4 - first / 4))
     (λ n less. each (first / 4 + n) (omega arith) (omega (arith, less, up))))
 
 -- ---- the channel and the length
@@ -230,11 +219,6 @@ exchange_falls g es way channel type op port s t falls =
     (link_known port.link)) s))
     falls)))
 
--- messages have no more bytes than a word
-abbrev pub more_bytes : (type : ValueType) → (m : ℕ) × (message_length type ≡ suc m) × (suc m ≤ 4)
-more_bytes value_type.Int = (3, refl, omega arith)
-more_bytes value_type.Byte = (0, refl, omega arith)
-
 -- ---- messages
 
 module _ (g : Scene) (top : ℕ) (es : List Entry) (undisturbed : IsUndisturbed g top es) (channel : Place)
@@ -247,6 +231,29 @@ module _ (g : Scene) (top : ℕ) (es : List Entry) (undisturbed : IsUndisturbed 
   abbrev pub bytes : ℕ
   bytes = message_length type
 
+  -- what is asked of a message that goes one way, beside the words that scheduling takes
+  exchanged_there : (way : Direction) (port : IsPort g es way channel type)
+      → ((v : ℕ) → first / 4 ≤ v → v ≤ (last + (more_bytes type).0) / 4 → IsOff g.setting.depth v)
+      → MayExchange g.setting way (with_channel port.link bytes k) bytes port.link here
+  exchanged_there way port off =
+      let is = (more_bytes type).1 in
+      let few = (more_bytes type).2 in
+      let s : Told = with_channel port.link bytes k in
+      record {
+        a = refl;
+        b = refl;
+        c = leads;
+        near = near;
+        some = omega (arith, is);
+        few = omega (arith, is, few);
+        inside = port.inside;
+        end = port.end;
+        length = port.length;
+        schedules = undisturbed.may;
+        off = subst (λ (n : ℕ). is_off_scheduling (told_state g.setting s) here (pos last +ℤ pos n) ≡ true) (sym is)
+            (off_is g.setting s first last (more_bytes type).0 step up off);
+      }
+
   -- the message goes from bytes of numbers, beside the words that scheduling takes
   pub out_falls : IsPort g es Out channel type
       → ((v : ℕ) → first / 4 ≤ v → v ≤ (last + (more_bytes type).0) / 4 → IsOff g.setting.depth v)
@@ -257,25 +264,10 @@ module _ (g : Scene) (top : ℕ) (es : List Entry) (undisturbed : IsUndisturbed 
   out_falls port off numbers may =
       let m = (more_bytes type).0 in
       let is = (more_bytes type).1 in
-      let few = (more_bytes type).2 in
       let s : Told = with_channel port.link bytes k in (
         exchanged g.setting s,
         exchange_falls g es Out channel type OUTPUT port k (exchanged g.setting s)
-            (sent_bytes_are_known g.setting s bytes port.link here (record {
-              a = refl;
-              b = refl;
-              c = leads;
-              near = near;
-              some = omega (arith, is);
-              few = omega (arith, is, few);
-              inside = port.inside;
-              end = port.end;
-              length = port.length;
-              schedules = undisturbed.may;
-              off = subst (λ (n : ℕ). is_off_scheduling (told_state g.setting s) here (pos last +ℤ pos n) ≡ true)
-                  (sym is)
-                  (off_is g.setting s first last m step up off);
-            })
+            (sent_bytes_are_known g.setting s bytes port.link here (exchanged_there Out port off)
             (subst (λ (n : ℕ). are_numbers (told_state g.setting s) here (pos n) ≡ true) (sym is)
             (numbers_are g.setting s first last m step up numbers))
             (subst (λ (n : ℕ). MayReadBytes g.setting regions.Frame (pos first) (pos last +ℤ pos n)) (sym is) may)),
@@ -290,25 +282,10 @@ module _ (g : Scene) (top : ℕ) (es : List Entry) (undisturbed : IsUndisturbed 
       (exchanged g.setting (with_received here (pos last +ℤ pos bytes) (with_channel port.link bytes k)))
   unfolding takes_any
   in_falls off may port =
-      let m = (more_bytes type).0 in
       let is = (more_bytes type).1 in
-      let few = (more_bytes type).2 in
       let s : Told = with_channel port.link bytes k in
       exchange_falls g es In channel type INPUT port k
       (exchanged g.setting (with_received here (pos last +ℤ pos bytes) s))
-      (received_bytes_are_known g.setting s bytes port.link here (record {
-        a = refl;
-        b = refl;
-        c = leads;
-        near = near;
-        some = omega (arith, is);
-        few = omega (arith, is, few);
-        inside = port.inside;
-        end = port.end;
-        length = port.length;
-        schedules = undisturbed.may;
-        off = subst (λ (n : ℕ). is_off_scheduling (told_state g.setting s) here (pos last +ℤ pos n) ≡ true) (sym is)
-            (off_is g.setting s first last m step up off);
-      })
+      (received_bytes_are_known g.setting s bytes port.link here (exchanged_there In port off)
       (ap (takes_any g.setting.contents g.setting.context) leads)
       (subst (λ (n : ℕ). MayWriteBytes g.setting regions.Frame (pos first) (pos last +ℤ pos n)) (sym is) may))

@@ -1,6 +1,6 @@
 -- Where messages lie: the bytes of scalars and of elements, and the words that these are in.
 use Rattle.std.proofs.Common.{◌≡◌, ℕ, suc, ◌+◌, ◌*◌, ◌/◌, ◌-◌, ◌<◌, ◌≤◌, ℤ, pos, negsuc, ◌+ℤ◌, ◌-ℤ◌}
-use Rattle.std.proofs.Common.{◌*ℤ◌, Bool, true, false, cond, List, None, refl, sym, ap}
+use Rattle.std.proofs.Common.{Bool, true, false, cond, List, None, refl, sym, ap}
 use Rattle.std.proofs.Common.{subst, ◌∙◌, arith}
 use Rattle.std.specs.Prelude.{nat_lt}
 use Rattle.std.specs.Int.{int_min, int_max}
@@ -31,24 +31,23 @@ use Rattle.occam_parser.specs.Expressions.{Expression}
 use Rattle.scalar_ranges.specs.Entries.{Entry}
 use Rattle.code_pieces.specs.Pieces.{Piece}
 use Rattle.line_pieces.specs.Actions.{target_address, KnownElement, OtherElement}
-use Rattle.line_pieces.specs.Expressions.{expression_code, subscript_of}
+use Rattle.line_pieces.specs.Expressions.{expression_code, subscript_code, subscript_of}
 use Rattle.line_pieces.specs.Homes.{words_for}
 use Rattle.certified_lines.specs.StraightRules.{Setting, Told, FallOn}
 use Rattle.certified_lines.specs.Addresses.{with_left}
 use Rattle.certified_lines.specs.Scopes.{Scene, HoldsScope, IsNumber}
 use Rattle.certified_lines.specs.Telling.{AreAllowed, IsFree, StayBefore}
 use Rattle.certified_lines.proofs.Arrays.{full_words_stay_full, other_words_stay}
-use Rattle.certified_lines.proofs.Elements.{both_near}
+use Rattle.certified_lines.proofs.Elements.{bytes_touched}
 use Rattle.certified_lines.proofs.Operands.{allowed_first, same_word}
 use Rattle.certified_lines.proofs.Ranges.{full_ranged}
 use Rattle.certified_actions.specs.Keeping.{NumbersStay}
 use Rattle.certified_actions.specs.Messages.{with_numbers, with_received}
 use Rattle.certified_actions.specs.Variables.{IsSelected}
-use Rattle.certified_actions.proofs.Bytes.{LiesIn, bytes_touch}
+use Rattle.certified_actions.proofs.Bytes.{LiesIn, lies_near, more_bytes}
 use Rattle.certified_actions.proofs.Addressing.{Addressed, element_byte, element_word, known_addressed}
 use Rattle.certified_actions.proofs.Addressing.{subscript_addressed}
-use Rattle.certified_actions.proofs.Elements.{several}
-use Rattle.certified_actions.proofs.Exchanging.{more_bytes}
+use Rattle.certified_actions.proofs.Elements.{bytes_spread}
 use Rattle.certified_actions.proofs.Keeping.{array_spared, in_span_is, numbers_both, numbers_spared, untouched_stay}
 
 -- ---- addresses
@@ -69,8 +68,6 @@ located : (g : Setting) (type : ValueType) (w count top first last : ℕ) (ps : 
     (before : Told) → w + count ≤ MAX_DATA_WORDS → LiesIn w count first last (more_bytes type).0
     → Addressed g ps top (pos first) (pos last) step small before → Located g type w count top ps before
 located g type w count top first last ps step small before few lies x =
-    let up = lies.up in
-    let high = lies.high in
     record {
       after = x.after;
       falls = x.falls;
@@ -79,8 +76,7 @@ located g type w count top first last ps step small before few lies x =
       last = last;
       step = step;
       a = x.a;
-      near = both_near (pos first) (pos last) (omega (arith, ints)) (omega (arith, ints, few, up, high))
-          (omega (arith, ints)) (omega (arith, ints, few, high));
+      near = lies_near few lies;
       lies = lies;
     }
 
@@ -111,44 +107,18 @@ pub other_located : (g : Scene) (type : ValueType) (w size top : ℕ) (es : List
     → AreAllowed g (target_address (OtherElement type w (subscript_of g.homes es top e))) → HoldsScope g es before.frame
     → Located g.setting type w (words_for type size) top
     (target_address (OtherElement type w (subscript_of g.homes es top e))) before
-other_located g value_type.Int w size top es e before few free x all holds =
+other_located g type w size top es e before few free x all holds =
     let r = x.range in
     let code : List Piece = expression_code g.homes es top e in
-    let p = x.tells top (omega arith) free (allowed_first g code _ all) before holds in
-    let sel = several size (pos 0) r x.select x.several in
-    let lo_is = sel.lo in
-    let hi_is = sel.hi in
-    let inside = sel.inside in
-    let first = 4 * (w + sel.first) in
-    let last = 4 * (w + (sel.first + suc sel.more)) in
-    let low : pos (4 * w) +ℤ (pos 4 *ℤ r.lo) ≡ pos first = omega (arith, ints, lo_is) in
-    let high : pos (4 * w) +ℤ (pos 4 *ℤ r.hi) ≡ pos last = omega (arith, ints, hi_is) in
-    let near = both_near (pos first) (pos last) (omega (arith, ints)) (omega (arith, ints, few, inside))
-    (omega (arith, ints)) (omega (arith, ints, few, inside)) in
-    located g.setting value_type.Int w size top first last _ _ _ before few
-    (record { up = omega arith; low = omega arith; high = omega (arith, inside) })
-    (subscript_addressed g.setting code top w x.leaf _ r before (pos first) (pos last) (omega
-    (arith, few, inside)) near p
-    value_type.Int low high)
-other_located g value_type.Byte w size top es e before few free x all holds =
-    let r = x.range in
-    let code : List Piece = expression_code g.homes es top e in
-    let p = x.tells top (omega arith) free (allowed_first g code _ all) before holds in
-    let sel = several size (pos 0) r x.select x.several in
-    let lo_is = sel.lo in
-    let hi_is = sel.hi in
-    let inside = sel.inside in
-    let first = 4 * w + sel.first in
-    let last = 4 * w + (sel.first + suc sel.more) in
-    let low : pos (4 * w) +ℤ r.lo ≡ pos first = omega (arith, ints, lo_is) in
-    let high : pos (4 * w) +ℤ r.hi ≡ pos last = omega (arith, ints, hi_is) in
-    let near = both_near (pos first) (pos last) (omega (arith, ints)) (omega (arith, ints, few, inside))
-    (omega (arith, ints)) (omega (arith, ints, few, inside)) in
-    located g.setting value_type.Byte w (words_for value_type.Byte size) top first last _ _ _ before few
-    (record { up = omega arith; low = omega arith; high = omega (arith, inside) })
-    (subscript_addressed g.setting code top w x.leaf _ r before (pos first) (pos last) (omega
-    (arith, few, inside)) near p
-    value_type.Byte low high)
+    let p = x.tells top (omega arith) free (allowed_first g code (subscript_code type w) all) before holds in
+    let spread = bytes_spread type w size r few x.select in
+    let lies = spread.lies in
+    let up = lies.up in
+    let low = lies.low in
+    let high = lies.high in
+    located g.setting type w (words_for type size) top spread.first spread.last _ _ _ before few lies
+    (subscript_addressed g.setting code top w x.leaf _ r before (pos spread.first) (pos spread.last)
+    (omega (arith, few, up, low, high)) (lies_near few lies) p type spread.low spread.high)
 
 -- ---- what is received
 
@@ -164,7 +134,7 @@ span_is : (first last m : ℕ) → first ≤ last
     → words_touched (pos first) (ends_at last m) ≡ suc ((last + m) / 4 - first / 4)
 span_is first last m up =
     let end : ends_at last m ≡ pos (last + m) +ℤ pos 1 = omega (arith, ints) in
-    ap (words_touched (pos first)) end ∙ bytes_touch first (last + m) (omega (arith, up))
+    ap (words_touched (pos first)) end ∙ bytes_touched first (last + m) (omega (arith, up))
 
 -- words that have no other bytes end where the bytes do
 within_ends : (first end : ℕ) → nat_lt 0 (words_within (pos first) (pos end)) ≡ true

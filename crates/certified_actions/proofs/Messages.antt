@@ -41,7 +41,7 @@ use Rattle.certified_lines.specs.Addresses.{with_left}
 use Rattle.certified_lines.specs.Instructions.{is_told}
 use Rattle.certified_lines.proofs.Addresses.{left_words, read_open, settles_ok, write_open}
 use Rattle.certified_lines.proofs.Elements.{pointer_is}
-use Rattle.certified_lines.proofs.Instructions.{falls_by, uses_told}
+use Rattle.certified_lines.proofs.Instructions.{falls_by, uses_told, writes_open}
 use Rattle.certified_lines.proofs.Operands.{same_word}
 use Rattle.certified_actions.specs.Messages.{exchanged, link_address, MayExchange, MaySchedule, ReceivedBytesAreKnown}
 use Rattle.certified_actions.specs.Messages.{SentBytesAreKnown, StopsEnd, with_numbers, with_received}
@@ -92,12 +92,6 @@ wants_open b broken rest is = true_one b rest (breaks broken) is
 bounds_open : (b : Bool) (rest : Ruling) → b ≡ true → in_bounds b rest ≡ rest
 unfolding in_bounds
 bounds_open b rest is = true_one b rest (breaks rules.Number) is
-
-writes_open : (site : Site) (s : State) (k : ℤ) (rest : Ruling) → may_write_word site.contents s.context k ≡ true
-    → writes_word site s k rest ≡ rest
-unfolding writes_word
-writes_open site s k rest may =
-    true_one (may_write_word site.contents s.context k) rest (breaks rules.OwnWord) may
 
 -- the words below the workspace are written
 schedules_open : (g : Setting) (site : Site) (t : Told) (number : ℕ) (rest : State → Ruling)

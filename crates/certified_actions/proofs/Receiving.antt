@@ -1,7 +1,6 @@
 -- What the code of inputs leaves known.
 use Rattle.std.proofs.Common.{◌≡◌, ℕ, suc, ◌+◌, ◌*◌, ◌/◌, ◌-◌, ◌<◌, ◌≤◌, inl, inr, ℤ, pos, ◌+ℤ◌, Bool, false}
 use Rattle.std.proofs.Common.{cond, not, List, [], ◌∷◌, ◌++◌, Option, Some, None, refl, sym, ap, subst, ◌∙◌, arith}
-use Rattle.std.proofs.lemmas.Int.{ints}
 use Rattle.word_arithmetic.specs.Range.{Ends, IsRange, full}
 use Rattle.word_arithmetic.specs.Range as ranges
 use Rattle.module_format.specs.Rows.{Fact}
@@ -44,6 +43,10 @@ use Rattle.certified_lines.proofs.NarrowedScopes.{changed_scopes_hold}
 use Rattle.certified_lines.proofs.Ranges.{full_ranged}
 use Rattle.certified_lines.proofs.Operands.{allowed_first, same_word, stored_there}
 use Rattle.certified_lines.proofs.Telling.{few_counted, name_has, scopes_stay}
+use Rattle.certified_lines.proofs.Elements.{array_numbers, bytes_touched}
+use Rattle.certified_lines.proofs.Induction.{bytes_ranged}
+use Rattle.certified_lines.proofs.MovingWords.{all_numbers_here}
+use Rattle.certified_lines.proofs.Operands.{other_word}
 use Rattle.certified_actions.specs.Exchanging.{IsOff, IsPort, IsUndisturbed}
 use Rattle.certified_actions.specs.Keeping.{FallsTo, NumbersStay, WordsThere}
 use Rattle.certified_actions.specs.Messages.{exchanged, with_received}
@@ -51,11 +54,11 @@ use Rattle.certified_actions.specs.Receiving.{InputsFall}
 use Rattle.certified_actions.specs.Variables.{IsOwnArray, IsOwnScalar, IsSubscript, IsVariable, array_element}
 use Rattle.certified_actions.specs.Variables.{is_computed}
 use Rattle.certified_actions.specs.Variables.{is_known, whole_scalar}
-use Rattle.certified_actions.proofs.Bytes.{bytes_touch, message_read, message_written, one_word_has, words_have}
+use Rattle.certified_actions.proofs.Bytes.{more_bytes, message_read, message_written, one_word_has, words_have}
 use Rattle.certified_actions.proofs.Addressing.{at_word, word_near, word_pointed}
 use Rattle.certified_actions.proofs.Assigning.{scope_free}
-use Rattle.certified_actions.proofs.Elements.{array_below, array_numbers, element, known_target, other_target}
-use Rattle.certified_actions.proofs.Exchanging.{all_numbers, in_falls, more_bytes, scheduling_stays, undisturbed_holds}
+use Rattle.certified_actions.proofs.Elements.{array_below, element, known_target, other_target}
+use Rattle.certified_actions.proofs.Exchanging.{in_falls, scheduling_stays, undisturbed_holds}
 use Rattle.certified_actions.proofs.Exchanging.{with_channel}
 use Rattle.certified_actions.proofs.Keeping.{fewer_stay, kept_numbers_hold, numbers_both, numbers_kept, untouched_stay}
 use Rattle.certified_actions.proofs.Locating.{Located, known_located, other_located}
@@ -92,10 +95,7 @@ module _ (g : Scene) (top : ℕ) (es : List Entry) (name : List ℕ) (type : Val
 
   put_elsewhere : (z : ℤ) → (z ≡ pos w → ⊥) → put z ≡ old z
   unfolding put
-  put_elsewhere z apart = elim (word_test z (pos w)) [
-    | inl same ↦ absurd (apart same.1)
-    | inr other ↦ ap (λ (b : Bool). cond b (Alone (number_in r)) (old z)) other.0
-  ]
+  put_elsewhere z apart = ap (λ (b : Bool). cond b (Alone (number_in r)) (old z)) (other_word z (pos w) apart)
 
   module _ (there : IsNumber new w r) (stay : NumbersStay IsSpared old new) where
     alone_put : (k : ℕ) (q : Ends) → IsOff depth k → IsNumber put k q → IsNumber new k q
@@ -296,14 +296,11 @@ unfolding byte_read
 byte_number g s w r is =
     let at : 4 * w / 4 ≡ w = omega arith in
     ap (λ (b : Bool). cond (not b) Unknown (Number (pos 0) (pos 255)))
-    (ap (λ (n : ℕ). (together s.frame (pos (4 * w / 4)) n).are_numbers) (bytes_touch (4 * w) (4 * w) (omega arith))
-    ∙ all_numbers s.frame (4 * w / 4) (suc (4 * w / 4 - 4 * w / 4))
+    (ap (λ (n : ℕ). (together s.frame (pos (4 * w / 4)) n).are_numbers) (bytes_touched (4 * w) (4 * w) (omega arith))
+    ∙ all_numbers_here s.frame (4 * w / 4) (suc (4 * w / 4 - 4 * w / 4))
     (λ n less.
     let same : w ≡ 4 * w / 4 + n = omega (arith, less) in
     (r, subst (λ (k : ℕ). IsNumber s.frame k r) same is)))
-
-bytes_ranged : IsRange ranges.bytes
-bytes_ranged = record { lo_fits = omega (arith, ints); hi_fits = omega (arith, ints); ordered = omega (arith, ints) }
 
 scalar_falls : (g : Scene) (top : ℕ) (es : List Entry) (channel : Place) (type : ValueType) (before : Told)
     (scope : IsScope g top es) (undisturbed : IsUndisturbed g top es) (port : IsPort g es In channel type)

@@ -40,16 +40,17 @@ use Rattle.certified_lines.proofs.Induction.{expressions_tell}
 use Rattle.certified_lines.proofs.Instructions.{addresses_are_known, stored_words_are_known}
 use Rattle.certified_lines.proofs.Operands.{allowed_first, allowed_rest, stored_stay, stored_there}
 use Rattle.certified_lines.proofs.Telling.{few_counted, name_has, scopes_stay}
+use Rattle.certified_lines.proofs.Elements.{array_numbers, array_housed}
 use Rattle.certified_actions.specs.Exchanging.{IsOff, IsPort, IsUndisturbed}
 use Rattle.certified_actions.specs.Keeping.{FallsTo}
 use Rattle.certified_actions.specs.Sending.{HasSource, IsElementOf, OutputsFall}
 use Rattle.certified_actions.specs.Variables.{IsSubscript, is_computed, is_known}
-use Rattle.certified_actions.proofs.Bytes.{message_read, one_word_has, words_have}
+use Rattle.certified_actions.proofs.Bytes.{more_bytes, message_read, one_word_has, words_have}
 use Rattle.certified_actions.proofs.Addressing.{word_near}
 use Rattle.certified_actions.proofs.Assigning.{scope_free}
-use Rattle.certified_actions.proofs.Elements.{array_below, array_numbers, element, known_target, other_target}
+use Rattle.certified_actions.proofs.Elements.{array_below, element, known_target, other_target}
 use Rattle.certified_actions.proofs.ElementStores.{free_counts, temporary, waiting}
-use Rattle.certified_actions.proofs.Exchanging.{more_bytes, out_falls, undisturbed_holds}
+use Rattle.certified_actions.proofs.Exchanging.{out_falls, undisturbed_holds}
 use Rattle.certified_actions.proofs.Locating.{Located, known_located, other_located}
 use Rattle.certified_actions.proofs.Receiving.{words_off}
 
@@ -140,10 +141,7 @@ module _ (g : Scene) (top : ℕ) (es : List Entry) (channel : Place) (type : Val
     count = words_for type size
 
     reads_all : MayReadAll g.setting w count
-    reads_all =
-        let m : Meaning = Array x.kind type (Some size) range in
-        (subst (λ (o : Option Home). IsHousedThere g top o m) x.at
-        (name_has (IsHousedThere g top) g.homes es name m scope.housed x.means)).2
+    reads_all = (array_housed g top es name type size w range scope x).2
 
     located_sent : (ps : List Piece) → Located g.setting type w count top ps before → FallsTo g top es
         (ps ++ asked) before

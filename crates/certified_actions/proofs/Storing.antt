@@ -1,6 +1,6 @@
 -- What is known where a number is stored in an element of an array: of the array's words what was known, and of others.
 use Rattle.std.proofs.Common.{◌≡◌, ℕ, suc, ◌+◌, ◌*◌, ◌/◌, ◌-◌, ◌<◌, ◌≤◌, ℤ, pos, ◌+ℤ◌}
-use Rattle.std.proofs.Common.{◌*ℤ◌, Bool, true, false, cond, ◌||◌, List, [], ◌∷◌, refl, sym}
+use Rattle.std.proofs.Common.{◌*ℤ◌, Bool, true, cond, List, [], ◌∷◌, sym}
 use Rattle.std.proofs.Common.{ap, subst, ◌∙◌, arith}
 use Rattle.std.proofs.lemmas.Bool.{and_from}
 use Rattle.std.proofs.lemmas.Int.{ints}
@@ -28,11 +28,13 @@ use Rattle.certified_lines.specs.Addresses.{with_left}
 use Rattle.certified_lines.specs.Scopes.{IsNumber}
 use Rattle.certified_lines.proofs.Addresses.{distant_stores_are_known, stored_bytes_are_known}
 use Rattle.certified_lines.proofs.Arrays.{spans_are_of_words}
-use Rattle.certified_lines.proofs.Elements.{both_near, pointer_is, words_are_at}
+use Rattle.certified_lines.proofs.Elements.{both_near, bytes_touched, pointer_is, words_are_at}
+use Rattle.certified_lines.proofs.MovingWords.{or_second}
+use Rattle.certified_lines.proofs.Operands.{other_word}
 use Rattle.certified_lines.proofs.Ranges.{full_ranged}
 use Rattle.certified_actions.specs.Keeping.{NumbersStay}
 use Rattle.certified_actions.specs.Variables.{MayWriteAll}
-use Rattle.certified_actions.proofs.Bytes.{bytes_touch, message_written, words_have}
+use Rattle.certified_actions.proofs.Bytes.{message_written, words_have}
 use Rattle.certified_actions.proofs.Keeping.{array_spared}
 
 -- Pieces fall to where of words that this holds of the numbers and the loops are known as before.
@@ -50,14 +52,6 @@ range_fits q ranged =
     let hi = ranged.hi_fits in
     and_from _ _ (le-int_le least_word q.lo (omega (arith, ints, lo))) (le-int_le q.hi greatest_word (omega
     (arith, ints, hi)))
-
--- one of two holds
-pub or_second : (a b : Bool) → b ≡ true → (a || b) ≡ true
-or_second true b is = refl
-or_second false b is = is
-
-apart_words : (a b : ℤ) → (a ≡ b → ⊥) → is_same_number a b ≡ false
-apart_words a b differ = grind (arith, ints)
 
 -- ---- a number is stored in an array
 
@@ -81,7 +75,7 @@ module _ (g : Setting) (P : ℕ → Type 0) (w count : ℕ) (k : Told) (array : 
       let few = array.few in
       let far = both_near (pos (4 * start)) (pos (4 * last)) (omega (arith, ints)) (omega (arith, ints, few, to))
       (omega (arith, ints)) (omega (arith, ints, few, to)) in
-      let several = apart_words (pos (4 * start)) (pos (4 * last)) (λ same. absurd (omega (arith, ints, same))) in
+      let several = other_word (pos (4 * start)) (pos (4 * last)) (λ same. absurd (omega (arith, ints, same))) in
       let fits = range_fits q ranged in
       let leaving : stored_word p k.stack.b.fact ≡ Widen q.lo q.hi =
       ap (λ (b : Bool). cond b (Become k.stack.b.fact) (widened_by k.stack.b.fact)) several
@@ -121,7 +115,7 @@ module _ (g : Setting) (P : ℕ → Type 0) (w count : ℕ) (k : Told) (array : 
       (omega (arith, ints)) (omega (arith, ints, few, to)) in
       let frame : (with_left p (p.hi +ℤ pos 1) stored_byte k).frame
       ≡ changed (on_span (pos (first / 4)) (suc (last / 4 - first / 4)) stored_byte) k.frame =
-      λ i. changed (on_span (pos (first / 4)) (bytes_touch first last up i) stored_byte) k.frame in
+      λ i. changed (on_span (pos (first / 4)) (bytes_touched first last up i) stored_byte) k.frame in
       record {
         after = without_a (without_a (with_left p (p.hi +ℤ pos 1) stored_byte k));
         falls = stored_bytes_are_known g p k (ap pointer_of a ∙ pointer_is regions.Frame (pos first)

@@ -26,9 +26,9 @@ use Rattle.certified_lines.proofs.Instructions.{constants_are_known, stored_word
 use Rattle.certified_lines.proofs.MovingWords.{moved_words_are_known}
 use Rattle.certified_lines.proofs.Operands.{stored_stay, stored_there}
 use Rattle.certified_lines.proofs.Telling.{stay_alike, stay_both}
+use Rattle.certified_lines.proofs.Elements.{word_is}
 use Rattle.certified_actions.specs.Declaring.{MayUse}
 use Rattle.certified_actions.specs.Zeroing.{Zeroed, ScalarsAreZero, ArraysAreFull}
-use Rattle.certified_actions.proofs.Addressing.{word_is}
 use Rattle.certified_actions.proofs.ElementStores.{IsTemporary, free_counts, temporary, waiting}
 
 -- ---- 0 in a word

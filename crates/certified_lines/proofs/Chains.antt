@@ -6,6 +6,7 @@ use Rattle.std.specs.Int.{w32}
 use Rattle.std.specs.Ordering.{int_eq}
 use Rattle.std.proofs.lemmas.Bool.{leb-true, le-leb}
 use Rattle.std.proofs.lemmas.List.{append-nil}
+use Rattle.std.proofs.lemmas.Bool.{and_parts}
 use Rattle.word_arithmetic.specs.Word.{least_word}
 use Rattle.word_arithmetic.specs.Range as ranges
 use Rattle.word_arithmetic.specs.Range.{Ends, IsRange, full, product_range, word_sum_range, word_product_range}
@@ -43,7 +44,6 @@ use Rattle.certified_lines.proofs.Ranges.{sums_turned, products_turned, and_rang
 use Rattle.certified_lines.proofs.Ranges.{xor_ranges_turned}
 use Rattle.certified_lines.proofs.Telling.{constants_tell}
 use Rattle.certified_lines.proofs.Operands.{operations_tell, operation_behind, on_it, waiting, allowed_first, keeps_a}
-use Rattle.certified_lines.proofs.Operands.{both_true}
 use Rattle.certified_lines.proofs.Arithmetic.{fewer_kept, kept_of, sum_tells}
 use Rattle.certified_lines.proofs.Arithmetic.{first_of}
 
@@ -196,7 +196,7 @@ module _ (g : Scene) (top t : ℕ) (es : List Entry) (r s q : Ends) (before : To
             (sums_lie_in_ranges g.setting d r q p.after (record { is = p.a; range = x }) added.0 added.1);
         a = refl;
         stay = p.stay;
-        below = λ is. keeps_a g.setting ps t lx sx r before p (both_true (sx || lx) leaf is).0;
+        below = λ is. keeps_a g.setting ps t lx sx r before p (and_parts (sx || lx) leaf is).0;
         alone = λ is. absurd (cc is);
       }
 

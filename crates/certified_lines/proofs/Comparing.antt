@@ -6,6 +6,7 @@ use Rattle.std.specs.Prelude.{◌+ℤ◌, ◌-ℤ◌}
 use Rattle.std.specs.Int.{w32}
 use Rattle.std.proofs.lemmas.Int.{ints}
 use Rattle.std.proofs.lemmas.Option.{same_Some}
+use Rattle.std.proofs.lemmas.Bool.{and_parts}
 use Rattle.word_arithmetic.specs.Word.{is_word}
 use Rattle.word_arithmetic.specs.Range as ranges
 use Rattle.word_arithmetic.specs.Range.{Ends, IsRange, truths, not_range, word_difference_range}
@@ -45,7 +46,7 @@ use Rattle.certified_lines.proofs.Numbers.{nothing_is_told_from_nowhere}
 use Rattle.certified_lines.proofs.Named.{operands_name}
 use Rattle.certified_lines.proofs.Ranges.{checked_by, constant_ranged, negative, not_ranged}
 use Rattle.certified_lines.proofs.Operands.{both_tell, operations_tell, allowed_first, allowed_rest}
-use Rattle.certified_lines.proofs.Operands.{both_true, quiet_of, still_nowhere}
+use Rattle.certified_lines.proofs.Operands.{quiet_of, still_nowhere}
 use Rattle.certified_lines.proofs.Arithmetic.{replaced, fewer_kept, kept_of, first_of}
 
 pub greater_range : (r s : Ends) → result_range binary.Greater r s ≡ Some truths
@@ -419,7 +420,7 @@ module _ (g : Scene) (top t : ℕ) (es : List Entry) (scope : IsScope g top es) 
         (comparisons_are_truths g.setting c s p.after (record { is = p.a; range = y }) fits);
     a = refl;
     stay = p.stay;
-    below = λ is. like_of (ap (λ (j : Told). j.stack.b) (p.alone (both_true a.small b.leaf is).1));
+    below = λ is. like_of (ap (λ (j : Told). j.stack.b) (p.alone (and_parts a.small b.leaf is).1));
     alone = λ is. absurd (cc is);
   }
 

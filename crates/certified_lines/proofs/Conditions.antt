@@ -142,11 +142,11 @@ exact_bound (Err n) v is = absurd (cc is)
 -- ---- what a condition tests
 
 -- a scalar is compared with a constant
-record IsTested (es : List Entry) (c : Comparison) (x y : Term) (test : Tested) : Type 0 where
-  scalar : x ≡ Named test.name
-  comparison : test.comparison ≡ c
-  constant : exact_value (bound_of_term es y) ≡ Some test.constant
-  narrows : is_narrowed (meaning_in test.name es) ≡ true
+pub record IsTested (es : List Entry) (c : Comparison) (x y : Term) (test : Tested) : Type 0 where
+  pub scalar : x ≡ Named test.name
+  pub comparison : test.comparison ≡ c
+  pub constant : exact_value (bound_of_term es y) ≡ Some test.constant
+  pub narrows : is_narrowed (meaning_in test.name es) ≡ true
 
 tested_is : (es : List Entry) (c : Comparison) (x y : Term) (test : Tested) → tested es c x y ≡ Some test
     → IsTested es c x y test
@@ -188,11 +188,11 @@ tested_is es c (Bracketed e) y test is = absurd (cc is)
 tested_is es c (Converted to x) y test is = absurd (cc is)
 
 -- which operand is the scalar
-data Sides (es : List Entry) (c : Comparison) (x y : Term) (test : Tested) : Type 0 where
+pub data Sides (es : List Entry) (c : Comparison) (x y : Term) (test : Tested) : Type 0 where
   left : IsTested es c x y test → Sides es c x y test
   right : IsTested es (turned c) y x test → Sides es c x y test
 
-sides_of : (es : List Entry) (c : Comparison) (x y : Term) (test : Tested)
+pub sides_of : (es : List Entry) (c : Comparison) (x y : Term) (test : Tested)
     → first_of (tested es c x y) (tested es (turned c) y x) ≡ Some test → Sides es c x y test
 sides_of es c x y test is = by_first (tested es c x y) refl is
   where

@@ -87,25 +87,25 @@ words_are_at region lo hi low high p q near =
     ∙ ap (λ (b : Bool). cond b (Ok (record { region = region; lo = low; hi = high; step = WordStep }))
     (Err rules.Pointer)) near
 
-bounds_are : (r : Ends) → bounds_of (number_in r) ≡ Ok (record { lo = r.lo; hi = r.hi })
+pub bounds_are : (r : Ends) → bounds_of (number_in r) ≡ Ok (record { lo = r.lo; hi = r.hi })
 unfolding bounds_of
 bounds_are r = refl
 
 -- ---- which elements are selected
 
 -- the numbers of the first element and of how many are behind it
-record Selected (size : ℕ) (c : ℤ) (r : Ends) : Type 0 where
-  first : ℕ
-  more : ℕ
-  lo : r.lo +ℤ c ≡ pos first
-  hi : r.hi +ℤ c ≡ pos (first + more)
-  inside : first + more < size
+pub record Selected (size : ℕ) (c : ℤ) (r : Ends) : Type 0 where
+  pub first : ℕ
+  pub more : ℕ
+  pub lo : r.lo +ℤ c ≡ pos first
+  pub hi : r.hi +ℤ c ≡ pos (first + more)
+  pub inside : first + more < size
 
 pub as_natural : (z : ℤ) → pos 0 ≤ℤ z → (n : ℕ) × (z ≡ pos n)
 as_natural (pos n) low = (n, refl)
 as_natural (negsuc n) low = absurd (omega (arith, ints, low))
 
-selected : (size : ℕ) (c : ℤ) (r : Ends) → Select size c r → Selected size c r
+pub selected : (size : ℕ) (c : ℤ) (r : Ends) → Select size c r → Selected size c r
 selected size c r s =
     let order = s.ranged.ordered in
     let start = s.first in
@@ -157,7 +157,8 @@ read_alone g ps t small q before read = record {
   alone = λ is. absurd (cc is);
 }
 
-element_words : (region : Region) (base : ℕ) (r : Ends) (lo hi : ℤ) → pos base +ℤ (pos 4 *ℤ r.lo) ≡ lo
+-- the words that a number selects behind a word
+pub element_words : (region : Region) (base : ℕ) (r : Ends) (lo hi : ℤ) → pos base +ℤ (pos 4 *ℤ r.lo) ≡ lo
     → pos base +ℤ (pos 4 *ℤ r.hi) ≡ hi → are_near lo hi ≡ true
     → element_of WordStep (record { region = region; lo = pos base; hi = pos base; step = WordStep })
     (record { lo = r.lo; hi = r.hi }) ≡ Ok (Pointer region lo hi WordStep)
@@ -277,13 +278,13 @@ reads_all : (g : Setting) (first count : ℕ) → MayReadAll g first count
     → all_words (may_read_word g.contents g.context) (pos first) count ≡ true
 reads_all g first count may = all_pass (may_read_word g.contents g.context) first count may
 
+regroup : (a b c : ℕ) → a + (b + c) ≡ a + b + c
+regroup a b c = omega arith
+
 some_of : (g : Setting) (word count first more : ℕ) → first + more < count → MayReadAll g word count
     → MayReadAll g (word + first) (suc more)
 some_of g word count first more inside may n less =
     subst (λ (k : ℕ). MayRead g k) (regroup word first n) (may (first + n) (omega (arith, inside, less)))
-  where
-    regroup : (a b c : ℕ) → a + (b + c) ≡ a + b + c
-    regroup a b c = omega arith
 
 words_readable : (g : Setting) (word count first more : ℕ) → first + more < count → MayReadAll g word count
     → MayReadBytes g regions.Frame (pos (4 * word + 4 * first)) (pos (4 * word + 4 * (first + more)) +ℤ pos 4)
@@ -308,9 +309,6 @@ words_say g word count first more s inside known =
     ∙ elements_are_numbers g.contents (told_state g s) full (word + first) more full_ranged
     (λ n up. subst (λ (k : ℕ). IsNumber s.frame k full) (regroup word first n)
     (known (first + n) (omega (arith, inside, up))))
-  where
-    regroup : (a b c : ℕ) → a + (b + c) ≡ a + b + c
-    regroup a b c = omega arith
 
 has_words : (g : Setting) (word count first more : ℕ) (k : Told) → word + count ≤ MAX_DATA_WORDS → first + more < count
     → MayReadAll g word count → ((n : ℕ) → n < count → IsNumber k.frame (word + n) full)
@@ -330,23 +328,39 @@ record IsKnownArray (g : Scene) (w count : ℕ) (s : Told) : Type 0 where
   reads : MayReadAll g.setting w count
   known : (n : ℕ) → n < count → IsNumber s.frame (w + n) full
 
+-- an array in the frame has words before the first free one, which may be read
+pub array_housed : (g : Scene) (top : ℕ) (es : List Entry) (name : List ℕ) (type : ValueType) (size w : ℕ)
+    (range : Ends) → IsScope g top es → (x : IsArray g es name type (Word w) size range)
+    → IsHousedThere g top (Some (Word w)) (Array x.kind type (Some size) range)
+array_housed g top es name type size w range scope x =
+    let k : Meaning = Array x.kind type (Some size) range in
+    subst (λ (o : Option Home). IsHousedThere g top o k) x.at
+    (name_has (IsHousedThere g top) g.homes es name k scope.housed x.means)
+
+-- and each of them is any number
+pub array_numbers : (g : Scene) (es : List Entry) (name : List ℕ) (type : ValueType) (size w : ℕ) (range : Ends)
+    (f : Facts) → IsArray g es name type (Word w) size range → HoldsScope g es f → (n : ℕ) → n < words_for type size
+    → IsNumber f (w + n) full
+array_numbers g es name type size w range f x holds =
+    let k : Meaning = Array x.kind type (Some size) range in
+    subst (λ (o : Option Home). AreKnownThere g f o k) x.at
+    (name_has (AreKnownThere g f) g.homes es name k holds x.means)
+
 array_known : (g : Scene) (top w size : ℕ) (es : List Entry) (name : List ℕ) (type : ValueType) (range : Ends)
     (s : Told) → IsScope g top es → IsArray g es name type (Word w) size range → HoldsScope g es s.frame
     → IsKnownArray g w (words_for type size) s
 array_known g top w size es name type range s scope array holds =
-    let k : Meaning = Array array.kind type (Some size) range in
-    let housed = subst (λ (o : Option Home). IsHousedThere g top o k) array.at
-    (name_has (IsHousedThere g top) g.homes es name k scope.housed array.means) in
+    let housed = array_housed g top es name type size w range scope array in
     let ends = housed.1 in
     let few = scope.few in
     record {
       few = omega (arith, ends, few);
       reads = housed.2;
-      known = subst (λ (o : Option Home). AreKnownThere g s.frame o k) array.at
-          (name_has (AreKnownThere g s.frame) g.homes es name k holds array.means);
+      known = array_numbers g es name type size w range s.frame array holds;
     }
 
-word_is : (word count : ℕ) → word + count < MAX_DATA_WORDS → word_after word count ≡ word + count
+-- a word so many words further is one of the frame
+pub word_is : (word count : ℕ) → word + count < MAX_DATA_WORDS → word_after word count ≡ word + count
 unfolding word_after counted
 word_is word count few = omega (arith, few)
 
@@ -486,7 +500,7 @@ items_tell g top t size es name type values range r s leaf small scope low array
 -- ---- bytes
 
 -- the words that have the bytes from one to another
-bytes_touched : (first last : ℕ) → first ≤ last → words_touched (pos first) (pos last +ℤ pos 1)
+pub bytes_touched : (first last : ℕ) → first ≤ last → words_touched (pos first) (pos last +ℤ pos 1)
     ≡ suc (last / 4 - first / 4)
 bytes_touched first last up =
     let end : pos last +ℤ pos 1 -ℤ pos 1 ≡ pos last = omega (arith, ints) in
@@ -495,17 +509,18 @@ bytes_touched first last up =
     ap (λ (z : ℤ). nat_abs (word_of_byte z -ℤ word_of_byte (pos first)) + 1) end
     ∙ (ap (λ (z : ℤ). nat_abs z + 1) apart ∙ more)
 
+-- words behind one are so many behind the first one of all
+from_first : (w v n : ℕ) → w ≤ v → w + (v - w + n) ≡ v + n
+from_first w v n up = omega (arith, up)
+
 bytes_readable : (g : Setting) (w count first last : ℕ) → first ≤ last → 4 * w ≤ first → last < 4 * (w + count)
     → MayReadAll g w count → MayReadBytes g regions.Frame (pos first) (pos last +ℤ pos 1)
 unfolding may_read_bytes
 bytes_readable g w count first last up low high may =
     ap (λ (n : ℕ). all_words (may_read_word g.contents g.context) (pos (first / 4)) n) (bytes_touched first last up)
     ∙ reads_all g (first / 4) (suc (last / 4 - first / 4))
-    (λ n less. subst (λ (k : ℕ). MayRead g k) (from_word n)
+    (λ n less. subst (λ (k : ℕ). MayRead g k) (from_first w (first / 4) n (omega (arith, low)))
     (may (first / 4 - w + n) (omega (arith, up, low, high, less))))
-  where
-    from_word : (n : ℕ) → w + (first / 4 - w + n) ≡ first / 4 + n
-    from_word n = omega (arith, low)
 
 bytes_say : (g : Setting) (w count first last : ℕ) (s : Told) → first ≤ last → 4 * w ≤ first → last < 4 * (w + count)
     → ((n : ℕ) → n < count → IsNumber s.frame (w + n) full)
@@ -513,15 +528,13 @@ bytes_say : (g : Setting) (w count first last : ℕ) (s : Told) → first ≤ la
 unfolding byte_read
 bytes_say g w count first last s up low high known =
     let all = all_numbers full s.frame (first / 4) (last / 4 - first / 4) full_ranged
-    (λ n less. subst (λ (k : ℕ). IsNumber s.frame k full) (from_word n)
+    (λ n less. subst (λ (k : ℕ). IsNumber s.frame k full) (from_first w (first / 4) n (omega (arith, low)))
     (known (first / 4 - w + n) (omega (arith, up, low, high, less)))) in
     ap (λ (t : Together). cond (not t.are_numbers) Unknown (Number (pos 0) (pos 255)))
     (ap (λ (n : ℕ). together s.frame (pos (first / 4)) n) (bytes_touched first last up) ∙ all)
-  where
-    from_word : (n : ℕ) → w + (first / 4 - w + n) ≡ first / 4 + n
-    from_word n = omega (arith, low)
 
-element_bytes : (base : ℕ) (r : Ends) (lo hi : ℤ) → pos base +ℤ r.lo ≡ lo → pos base +ℤ r.hi ≡ hi
+-- the bytes that a number selects behind one
+pub element_bytes : (base : ℕ) (r : Ends) (lo hi : ℤ) → pos base +ℤ r.lo ≡ lo → pos base +ℤ r.hi ≡ hi
     → are_near lo hi ≡ true
     → element_of Byte (record { region = regions.Frame; lo = pos base; hi = pos base; step = WordStep })
     (record { lo = r.lo; hi = r.hi })

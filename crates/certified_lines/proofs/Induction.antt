@@ -144,16 +144,19 @@ module _ (g : Scene) (top : ℕ) (es : List Entry) (scope : IsScope g top es) wh
 
 -- ---- subscripts
 
--- the code of a subscript without its constant leaves a number that selects an element, once the constant is added
-record SubscriptTold (g : Scene) (top : ℕ) (es : List Entry) (e : Expression) (size : ℕ) (o : Option ℤ) : Type 0 where
-  range : Ends
-  leaf : Bool
-  select : Select size (or_zero o) range
-  tells : (t : ℕ) → top ≤ t → IsFree t
+-- The code of a subscript without its constant leaves one of several numbers, and each selects an element, once the
+-- constant is added.
+pub record SubscriptTold (g : Scene) (top : ℕ) (es : List Entry) (e : Expression) (size : ℕ) (o : Option ℤ)
+    : Type 0 where
+  pub range : Ends
+  pub leaf : Bool
+  pub select : Select size (or_zero o) range
+  pub several : range.lo ≡ range.hi → ⊥
+  pub tells : (t : ℕ) → top ≤ t → IsFree t
       → Tells g es (without o (expression_code g.homes es t e) (first_code g.homes es t e)) t leaf (is_small es e) range
 
 -- the first operand of a chain of two is told
-abbrev FirstTold : Scene → ℕ → List Entry → Expression → Type 0
+abbrev pub FirstTold : Scene → ℕ → List Entry → Expression → Type 0
 FirstTold g top es (Chained op (Two x y)) =
     (b : Bound) → type_of_term es x ≡ Ok types.Int → bound_of_term es x ≡ Ok b → TermTold g top es x types.Int b
 FirstTold g top es e = Unit {0}
@@ -163,10 +166,16 @@ in_size size r is =
     let both = and_parts (int_le (pos 0) r.lo) (int_lt r.hi (pos size)) is in
     (omega (arith, ints, both.0), omega (arith, ints, both.1))
 
+-- a range of several numbers has no number that is its only one
+several_in : (r : Ends) → single (Ok r) ≡ None → r.lo ≡ r.hi → ⊥
+several_in r is same =
+    cc (ap (λ (t : Bool). cond t (Some r.lo) None) (sym ((Decides-int_eq r.lo r.hi).1 same)) ∙ is)
+
 -- the whole subscript
-whole_told : (g : Scene) (top : ℕ) (es : List Entry) (e : Expression) (size : ℕ) (b : Bound)
-    → ExpressionTells g top es e types.Int b → is_subscript size (ends b) ≡ true → SubscriptTold g top es e size None
-whole_told g top es e size b told inside =
+pub whole_told : (g : Scene) (top : ℕ) (es : List Entry) (e : Expression) (size : ℕ) (b : Bound)
+    → ExpressionTells g top es e types.Int b → single (Ok (ends b)) ≡ None → is_subscript size (ends b) ≡ true
+    → SubscriptTold g top es e size None
+whole_told g top es e size b told several inside =
     let ranged = subst IsRange told.is told.ranged in
     let within = in_size size (ends b) inside in
     let low = within.0 in
@@ -181,6 +190,7 @@ whole_told g top es e size b told inside =
         first = omega (arith, ints, low);
         last = omega (arith, ints, high);
       });
+      several = subst (λ (r : Ends). r.lo ≡ r.hi → ⊥) (sym told.is) (several_in (ends b) several);
       tells = told.tells;
     }
 
@@ -247,14 +257,18 @@ int_terms op p u is = absurd (cc is)
 module _ (g : Scene) (top : ℕ) (es : List Entry) (size : ℕ) where
   -- the first operand of a sum, of a subscript that has several numbers
   first_selects : (x y : Term) (b d : Bound) (c : ℤ) → pos 0 ≤ℤ c → c ≤ℤ greatest_offset
-      → chain_bound (chain.Arithmetic arithmetic_chain.Add) b (Exactly c) ≡ Ok d → exact_value (Ok d) ≡ None
-      → is_subscript size (ends d) ≡ true → IsRange (ends b) → Select size c (ends b)
+      → chain_bound (chain.Arithmetic arithmetic_chain.Add) b (Exactly c) ≡ Ok d → single (Ok (ends d)) ≡ None
+      → is_subscript size (ends d) ≡ true → IsRange (ends b)
+      → Select size c (ends b) × ((ends b).lo ≡ (ends b).hi → ⊥)
   first_selects x y (Exactly u) d c low near gives several inside ranged =
       absurd (by_value (computed binary.Add u c) gives)
     where
       by_value : (o : Option ℤ) → ok_or OUT_OF_RANGE (option_map Exactly o) ≡ Ok d → ⊥
       by_value None same = absurd (cc)
-      by_value (Some v) same = absurd (cc (ap exact_value same ∙ several))
+      by_value (Some v) same =
+          let exact = ok_same (Exactly v) d same in
+          several_in (ends d) several
+          (sym (ap (λ (q : Bound). (ends q).lo) exact) ∙ ap (λ (q : Bound). (ends q).hi) exact)
   first_selects x y (Within r) d c low near gives several inside ranged =
       let given = ranges_give_is (result_range binary.Add) (Within r) (Exactly c) d gives in
       let sum = sum_further r given.range c given.holds in
@@ -264,23 +278,25 @@ module _ (g : Scene) (top : ℕ) (es : List Entry) (size : ℕ) where
       let first = within.0 in
       let last = within.1 in
       let lo_same : (ends d).lo ≡ given.range.lo = ap (λ (e : Bound). (ends e).lo) given.is in
-      let hi_same : (ends d).hi ≡ given.range.hi = ap (λ (e : Bound). (ends e).hi) given.is in
-      record {
-        low = low;
-        near = near;
-        ranged = ranged;
-        first = omega (arith, ints, lo, first, lo_same);
-        last = omega (arith, ints, hi, last, hi_same);
-      }
+      let hi_same : (ends d).hi ≡ given.range.hi = ap (λ (e : Bound). (ends e).hi) given.is in (
+        record {
+          low = low;
+          near = near;
+          ranged = ranged;
+          first = omega (arith, ints, lo, first, lo_same);
+          last = omega (arith, ints, hi, last, hi_same);
+        },
+        λ same. several_in (ends d) several (omega (arith, ints, lo, hi, lo_same, hi_same, same)),
+      )
 
   offset_told : (op : ChainOperator) (x y : Term) (d : Bound) (o : Option ℤ)
       → offset_or_none (added_by op (exact_value (bound_of_term es y))) ≡ o
       → type_of es (Chained op (Two x y)) ≡ Ok types.Int → bound_of es (Chained op (Two x y)) ≡ Ok d
-      → exact_value (Ok d) ≡ None → is_subscript size (ends d) ≡ true
+      → single (Ok (ends d)) ≡ None → is_subscript size (ends d) ≡ true
       → ExpressionTells g top es (Chained op (Two x y)) types.Int d → FirstTold g top es (Chained op (Two x y))
       → SubscriptTold g top es (Chained op (Two x y)) size o
   offset_told op x y d None offset typed is several inside told first =
-      whole_told g top es (Chained op (Two x y)) size d told inside
+      whole_told g top es (Chained op (Two x y)) size d told several inside
   offset_told op x y d (Some c) offset typed is several inside told first =
       let found = offset_is op (exact_value (bound_of_term es y)) c offset in
       let h = both_ok (type_of_term es x) (type_of_term es y) (chain_type op) types.Int typed in
@@ -289,34 +305,38 @@ module _ (g : Scene) (top : ℕ) (es : List Entry) (size : ℕ) where
       let exact : b.1 ≡ Exactly c = exact_is b.1 c (sym (ap exact_value b.3) ∙ found.value) in
       let left = first b.0 (h.2 ∙ ap (λ (t : ExprType). Ok t) ints.0) b.2 in
       let gives = (λ i. chain_bound (sym found.adds i) b.0 (sym exact i)) ∙ b.4 in
+      let selects = first_selects x y b.0 d c found.low found.near gives several inside
+      (subst IsRange left.is left.ranged) in
       record {
         range = left.range;
         leaf = is_leaf_term es x;
-        select = subst (λ (r : Ends). Select size c r) (sym left.is)
-            (first_selects x y b.0 d c found.low found.near gives several inside (subst IsRange left.is left.ranged));
+        select = subst (λ (r : Ends). Select size c r) (sym left.is) selects.0;
+        several = subst (λ (r : Ends). r.lo ≡ r.hi → ⊥) (sym left.is) selects.1;
         tells = λ t low few all s holds.
             less_small g.setting (term_code g.homes es t x) t (is_leaf_term es x) (is_small es (Chained op (Two x y)))
             (is_small_term es x) left.range s (first_of (is_small_term es x) (is_leaf_term es y))
             (left.tells t low few all s holds);
       }
 
-  subscript_told : (e : Expression) (d : Bound) → type_of es e ≡ Ok types.Int → bound_of es e ≡ Ok d
-      → exact_value (Ok d) ≡ None → is_subscript size (ends d) ≡ true → ExpressionTells g top es e types.Int d
+  -- so the code of a subscript that has several numbers is told, without a constant that it ends with
+  pub subscript_told : (e : Expression) (d : Bound) → type_of es e ≡ Ok types.Int → bound_of es e ≡ Ok d
+      → single (Ok (ends d)) ≡ None → is_subscript size (ends d) ≡ true → ExpressionTells g top es e types.Int d
       → FirstTold g top es e → SubscriptTold g top es e size (offset_of es e)
-  subscript_told (Alone x) d typed is several inside told first = whole_told g top es (Alone x) size d told inside
+  subscript_told (Alone x) d typed is several inside told first =
+      whole_told g top es (Alone x) size d told several inside
   subscript_told (Prefixed op x) d typed is several inside told first =
-      whole_told g top es (Prefixed op x) size d told inside
+      whole_told g top es (Prefixed op x) size d told several inside
   subscript_told (Paired op x y) d typed is several inside told first =
-      whole_told g top es (Paired op x y) size d told inside
+      whole_told g top es (Paired op x y) size d told several inside
   subscript_told (Chained op (Then ts x)) d typed is several inside told first =
-      whole_told g top es (Chained op (Then ts x)) size d told inside
+      whole_told g top es (Chained op (Then ts x)) size d told several inside
   subscript_told (Chained op (Two x y)) d typed is several inside told first =
       offset_told op x y d (offset_or_none (added_by op (exact_value (bound_of_term es y)))) refl typed is several
       inside told first
 
 -- ---- elements
 
-bytes_ranged : IsRange bytes
+pub bytes_ranged : IsRange bytes
 bytes_ranged = record { lo_fits = omega (arith, ints); hi_fits = omega (arith, ints); ordered = omega (arith, ints) }
 
 single_is : (r : Ends) (c : ℤ) → single (Ok r) ≡ Some c → (r.lo ≡ c) × (r.lo ≡ r.hi)
@@ -326,18 +346,13 @@ single_is r c is = by_test (int_eq r.lo r.hi) refl is
     by_test true test same = (cc, (Decides-int_eq r.lo r.hi).0 test)
     by_test false test same = absurd (cc)
 
-not_single : (b : Bound) → single (Ok (ends b)) ≡ None → exact_value (Ok b) ≡ None
-not_single (Exactly v) is =
-    absurd (cc (sym (ap (λ (t : Bool). cond t (Some v) None) ((Decides-int_eq v v).1 refl)) ∙ is))
-not_single (Within r) is = refl
-
 -- the number of the only element that a subscript selects
-record OnlyElement (size : ℕ) (c : ℤ) : Type 0 where
-  number : ℕ
-  is : c ≡ pos number
-  inside : pos number <ℤ pos size
+pub record OnlyElement (size : ℕ) (c : ℤ) : Type 0 where
+  pub number : ℕ
+  pub is : c ≡ pos number
+  pub inside : pos number <ℤ pos size
 
-only_element : (size : ℕ) (r : Ends) (c : ℤ) → single (Ok r) ≡ Some c → is_subscript size r ≡ true → OnlyElement size c
+pub only_element : (size : ℕ) (r : Ends) (c : ℤ) → single (Ok r) ≡ Some c → is_subscript size r ≡ true → OnlyElement size c
 only_element size r c is inside =
     let one = single_is r c is in
     let lo = one.0 in
@@ -375,7 +390,7 @@ module _ (g : Scene) (top : ℕ) (es : List Entry) (scope : IsScope g top es) (n
             holds);
       }
   words_element w size range d None one inside array same =
-      let subscript = subscript_told g top es size e b typed is (not_single b one) inside told first in
+      let subscript = subscript_told g top es size e b typed is one inside told first in
       record {
         range = full;
         is = same;
@@ -403,7 +418,7 @@ module _ (g : Scene) (top : ℕ) (es : List Entry) (scope : IsScope g top es) (n
             (known_bytes_tell g top t w only.number size es name range (sub t) small scope array only.inside s holds);
       }
   bytes_element w size range d None one inside array same =
-      let subscript = whole_told g top es e size b told inside in
+      let subscript = whole_told g top es e size b told one inside in
       record {
         range = bytes;
         is = same;
@@ -433,7 +448,7 @@ module _ (g : Scene) (top : ℕ) (es : List Entry) (scope : IsScope g top es) (n
             only.inside s holds);
       }
   items_element values type size range d None one inside array ranged same =
-      let subscript = subscript_told g top es size e b typed is (not_single b one) inside told first in
+      let subscript = subscript_told g top es size e b typed is one inside told first in
       record {
         range = range;
         is = of_values g top es type d range same;
@@ -582,7 +597,7 @@ module _ (g : Scene) (top : ℕ) (es : List Entry) (scope : IsScope g top es) wh
         more_told g top es scope op ts x h.0 h.1 type b.0 b.1 d b.3 is h.4 b.4
         (terms_told op ts h.0 b.0 w.0 h.2 b.2) (term_told x h.1 b.1 w.1 h.3 b.3)
 
-    first_told : (e : Expression) → has_words e ≡ true → FirstTold g top es e
+    pub first_told : (e : Expression) → has_words e ≡ true → FirstTold g top es e
     first_told (Alone x) words = tt
     first_told (Prefixed op x) words = tt
     first_told (Paired op x y) words = tt

@@ -69,7 +69,7 @@ reads_open : (site : Site) (s : State) (k : ℤ) (rest : Ruling) → may_read_wo
 unfolding reads_word
 reads_open site s k rest may = ap (λ (b : Bool). cond b rest (breaks rules.OwnWord)) may
 
-writes_open : (site : Site) (s : State) (k : ℤ) (rest : Ruling) → may_write_word site.contents s.context k ≡ true
+pub writes_open : (site : Site) (s : State) (k : ℤ) (rest : Ruling) → may_write_word site.contents s.context k ≡ true
     → writes_word site s k rest ≡ rest
 unfolding writes_word
 writes_open site s k rest may = ap (λ (b : Bool). cond b rest (breaks rules.OwnWord)) may

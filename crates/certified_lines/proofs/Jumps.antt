@@ -25,7 +25,7 @@ use Rattle.certified_lines.specs.Jumps.{fallen, jumped, JumpsFork}
 use Rattle.certified_lines.proofs.Instructions.{uses_told}
 
 -- a jump leads so many bytes behind the instruction
-leads_behind : (next bytes : ℕ) → next + bytes < 2 ^ 32 → target next (pos bytes) ≡ next + bytes
+pub leads_behind : (next bytes : ℕ) → next + bytes < 2 ^ 32 → target next (pos bytes) ≡ next + bytes
 leads_behind next bytes small = omega (arith, ints, small)
 
 has_its_range : (fact : Fact) (r : Ends) → fact ≡ number_in r → IsRange r → has_range fact ≡ true

@@ -75,7 +75,7 @@ may_write_all g word more each = bytes_pass (may_write_word g.contents g.context
 
 -- ---- words that are numbers
 
-all_numbers_here : (f : Facts) (first count : ℕ)
+pub all_numbers_here : (f : Facts) (first count : ℕ)
     → ((n : ℕ) → n < count → (r : Ends) × (f (pos (first + n)) ≡ Alone (number_in r)))
     → (together f (pos first) count).are_numbers ≡ true
 all_numbers_here f first zero each = refl
@@ -128,7 +128,8 @@ movable n few =
     and_from _ _ (le-int_le (pos 0) (pos n) (omega (arith, ints)))
     (le-int_le (pos n) (pos 65536) (omega (arith, ints, few)))
 
-or_second : (a b : Bool) → b ≡ true → (a || b) ≡ true
+-- one of two holds
+pub or_second : (a b : Bool) → b ≡ true → (a || b) ≡ true
 or_second true b is = refl
 or_second false b is = is
 

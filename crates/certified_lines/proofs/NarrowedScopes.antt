@@ -21,15 +21,14 @@ use Rattle.certified_lines.specs.Scopes.{IsNumber, loop_of}
 use Rattle.certified_lines.specs.StraightRules.{Told}
 use Rattle.certified_lines.specs.Instructions.{is_told, with_word, without_a}
 use Rattle.certified_lines.proofs.Instructions.{stored_words_are_known}
-use Rattle.certified_lines.proofs.Operands.{stored_by, stored_there}
+use Rattle.certified_lines.proofs.Operands.{other_word, stored_by, stored_there}
 use Rattle.certified_lines.proofs.Telling.{few_counted}
-use Rattle.rulings.proofs.Words.{word_test}
 use Rattle.local_rules.specs.WordRules.{number_in}
 use Rattle.module_format.specs.Rows.{Fact}
 use Rattle.states.specs.declared.known.WordFact.{WordFact}
 use Rattle.states.specs.declared.known.WordFact.TheVariants.{Alone, Index, Count}
 use Rattle.states.specs.State.{is_at, is_parted, is_same_number, with_fact}
-use Rattle.std.proofs.Common.{inl, inr, ◌-ℤ◌, arith}
+use Rattle.std.proofs.Common.{◌-ℤ◌, arith}
 use Rattle.std.proofs.lemmas.Int.{ints}
 use Rattle.word_arithmetic.specs.Range.{full}
 use Rattle.certified_lines.proofs.Telling.{each_has, name_has}
@@ -39,12 +38,6 @@ use Rattle.certified_lines.proofs.Conditions.{comparisons_test}
 
 one_word : (v w : ℕ) → pos v ≡ pos w → v ≡ w
 one_word v w same = cc
-
-other_word : (v w : ℕ) → (v ≡ w → ⊥) → is_same_number (pos v) (pos w) ≡ false
-other_word v w apart = elim (word_test (pos v) (pos w)) [
-  | inl same ↦ absurd (apart (one_word v w same.1))
-  | inr other ↦ other.0
-]
 
 module _ (g : Scene) (w : ℕ) (q : Ends) (old new : Facts) (one : OneWordBecomes w q old new) where
   -- a word that is in no loop with the other one
@@ -69,9 +62,11 @@ module _ (g : Scene) (w : ℕ) (q : Ends) (old new : Facts) (one : OneWordBecome
   beside_stays (Some (Word v)) (Scalar kind type range) is apart = alone_stays v range apart is
   beside_stays (Some (Block v head)) (Scalar kind type range) is apart =
       let back : pos (v + 1) -ℤ pos 1 ≡ pos v = omega (arith, ints) in (
-        word_stays v (Index (loop_of g head range)) apart.0 is.0 (other_word (v + 1) w apart.1),
+        word_stays v (Index (loop_of g head range)) apart.0 is.0
+            (other_word (pos (v + 1)) (pos w) (λ same. apart.1 (one_word (v + 1) w same))),
         word_stays (v + 1) (Count (loop_of g head range)) apart.1 is.1
-            (ap (λ (z : ℤ). is_same_number z (pos w)) back ∙ other_word v w apart.0),
+            (ap (λ (z : ℤ). is_same_number z (pos w)) back
+            ∙ other_word (pos v) (pos w) (λ same. apart.0 (one_word v w same))),
       )
   beside_stays (Some (Link n)) (Scalar kind type range) is apart = is
   beside_stays (Some (home.Table values)) (Scalar kind type range) is apart = is
@@ -147,10 +142,8 @@ changed_scopes_hold g es name w kind type range f old new means at beside holds 
 
 stored_others : (w : ℕ) (fact : Fact) (f : Facts) (k : ℤ) → (k ≡ pos w → ⊥)
     → is_parted (is_at (pos w)) k (f k) ≡ false → with_fact (pos w) fact f k ≡ f k
-stored_others w fact f k apart whole = elim (word_test k (pos w)) [
-  | inl same ↦ absurd (apart same.1)
-  | inr other ↦ stored_by (is_at (pos w) k) (is_parted (is_at (pos w)) k (f k)) fact (f k) other.0 whole
-]
+stored_others w fact f k apart whole =
+    stored_by (is_at (pos w) k) (is_parted (is_at (pos w)) k (f k)) fact (f k) (other_word k (pos w) apart) whole
 
 pub stored_scalars_are_held : StoredScalarsAreHeld
 stored_scalars_are_held g es name w kind type range q before few may means at beside holds is =

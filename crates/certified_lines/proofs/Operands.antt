@@ -2,6 +2,10 @@
 use Rattle.std.proofs.Common.{◌≡◌, ℕ, ◌+◌, ◌<◌, ◌≤◌, inl, inr, ℤ, pos, ◌+ℤ◌, ◌-ℤ◌, Bool, true, false, ◌&&◌, ◌||◌, cond}
 use Rattle.std.proofs.Common.{List, [], ◌∷◌, ◌++◌, Some, refl, sym, ap, subst, ◌∙◌, arith}
 use Rattle.std.proofs.lemmas.Int.{ints}
+use Rattle.std.proofs.lemmas.Bool.{and_parts}
+use Rattle.small_laws.proofs.Comparisons.{eqb-self}
+use Rattle.states.specs.declared.known.Loop.{Loop as CountedLoop}
+use Rattle.states.specs.Below.{is_same_loop}
 use Rattle.word_arithmetic.specs.Range.{Ends, IsRange}
 use Rattle.word_arithmetic.specs.Binary.{result_range}
 use Rattle.word_arithmetic.specs.declared.binary.Binary.{Binary}
@@ -85,6 +89,12 @@ next_is t few = omega (arith, few)
 pub same_word : (k : ℤ) → is_same_number k k ≡ true
 same_word k = grind (arith, ints)
 
+pub other_word : (j k : ℤ) → (j ≡ k → ⊥) → is_same_number j k ≡ false
+other_word j k apart = grind (arith, ints)
+
+pub same_loop : (loop : CountedLoop) → is_same_loop loop loop ≡ true
+same_loop loop = rw (same_word loop.base, eqb-self loop.count, eqb-self loop.weight) refl
+
 before_word : (t k : ℕ) → k < t → is_same_number (pos k) (pos t) ≡ false
 before_word t k less = grind (arith, ints)
 
@@ -129,11 +139,6 @@ pub keeps_a : (g : Setting) (ps : List Piece) (t : ℕ) (leaf small : Bool) (r :
 keeps_a g ps t leaf true r before p is = p.below refl
 keeps_a g ps t true false r before p is = like_of (ap (λ (k : Told). k.stack.b) (p.alone refl))
 keeps_a g ps t false false r before p is = absurd (cc is)
-
-pub both_true : (a b : Bool) → (a && b) ≡ true → (a ≡ true) × (b ≡ true)
-both_true true true is = (refl, refl)
-both_true true false is = absurd (cc is)
-both_true false b is = absurd (cc is)
 
 -- what is in A and B is exchanged, or not
 exchange_falls : (g : Setting) (in_order : Bool) (r s : Ends) (k : Told) → k.stack.a.fact ≡ number_in r
@@ -181,7 +186,7 @@ module _ (g : Scene) (top t : ℕ) (es : List Entry) (scope : IsScope g top es) 
         stay = stay_both t before.frame k.frame second.after.frame first.stay
             (stay_fewer t (word_after t 1) k.frame second.after.frame (next_counted t few) second.stay);
         below = λ is.
-            let both = both_true (sx || lx) ly is in
+            let both = and_parts (sx || lx) ly is in
             like_both (keeps_a g.setting xs t lx sx r before first both.0)
             (like_of (ap (λ (k : Told). k.stack.c) (second.alone both.1)));
       }
@@ -211,7 +216,7 @@ module _ (g : Scene) (top t : ℕ) (es : List Entry) (scope : IsScope g top es) 
         stay = stay_both t before.frame k.frame last.0.frame second.stay
             (subst (λ (f : Facts). StayBefore t k.frame f) (sym last.3) first.stay);
         below = λ is.
-            let both = both_true (sx || lx) ly is in
+            let both = and_parts (sx || lx) ly is in
             like_of (last.4 ∙ ap (λ (k : Told). k.stack.c) alone ∙ ap (λ (k : Told). k.stack.b) (second.alone both.1));
       }
 
@@ -282,7 +287,7 @@ module _ (g : Scene) (top t : ℕ) (es : List Entry) (scope : IsScope g top es) 
         sources = λ calm. second.sources calm.1;
         stay = stay_both t before.frame first.after.frame second.after.frame first.stay second.stay;
         below = λ is.
-            let both = both_true (sx || lx) ly is in
+            let both = and_parts (sx || lx) ly is in
             like_both (keeps_a g.setting xs t lx sx r before first both.0) (second.below both.1);
       }
 

@@ -81,11 +81,11 @@ sum_with_zero v fits =
     let same : v +ℤ pos 0 ≡ v = grind (arith, ints) in
     rw (same, is_word_in v fits) refl
 
-loaded_falls : (g : Setting) (v : ℤ) (s : Told)
+pub loaded_falls : (g : Setting) (v : ℤ) (s : Told)
     → Falls g fun.LoadConstant v s (with_pushed (known_constant v) s)
 loaded_falls g v s = elim (constants_are_loaded g v s) [ next x done ↦ x ]
 
-filled_falls : (g : Setting) (v : ℤ) (s : Told) → FitsSigned w32 v
+pub filled_falls : (g : Setting) (v : ℤ) (s : Told) → FitsSigned w32 v
     → Falls g fun.AddConstant (pos 0) (with_pushed (known_constant v) s) (with_pushed (known_constant v) s)
 filled_falls g v s fits =
     elim (sums_lie_in_ranges g (pos 0) (ranges.constant v) (ranges.constant v) (with_pushed (known_constant v) s)
@@ -93,7 +93,7 @@ filled_falls g v s fits =
     (record { sfits = lit< tt }) (sum_with_zero v fits)) [ next x done ↦ x ]
 
 -- `ldpi` leads to a place that is told
-place_falls : (g : Setting) (at size number : ℕ) (v : ℤ) (fact : Fact) (s : Told)
+pub place_falls : (g : Setting) (at size number : ℕ) (v : ℤ) (fact : Fact) (s : Told)
     → place_fact g.contents (pos (at + size) +ℤ v) ≡ Ok fact → size ≤ number
     → rule (record { contents = g.contents; at = at; length = size }) fun.Operate LOAD_POINTER_TO_INSTRUCTION
     (state_of g (with_pushed (known_constant v) s) number)

@@ -44,17 +44,14 @@ use Rattle.code_pieces.specs.Laying.{operand_at}
 use Rattle.code_pieces.specs.Numbers.{is_stop}
 use Rattle.certified_lines.specs.StraightRules.{Setting, Told, Falls, state_of, with_pushed}
 use Rattle.certified_lines.specs.Instructions.{is_told, word_pointer}
-use Rattle.certified_lines.proofs.Instructions.{uses_told}
+use Rattle.certified_lines.proofs.Instructions.{uses_told, writes_open}
+use Rattle.certified_lines.proofs.Jumps.{leads_behind}
+use Rattle.certified_lines.proofs.Operands.{same_loop, same_word}
 use Rattle.certified_modules.specs.Passing.{after_turns}
-use Rattle.certified_modules.proofs.SameNumbers.{same_number, same_loop, stepped}
 use Rattle.certified_modules.proofs.Scheduling.{word_below, scheduled}
+use Rattle.certified_modules.proofs.TablesPlaced.{stepped}
 
 -- ---- what rules are made of
-
-writes_open : (site : Site) (s : State) (k : ℤ) (rest : Ruling) → may_write_word site.contents s.context k ≡ true
-    → writes_word site s k rest ≡ rest
-unfolding writes_word
-writes_open site s k rest may = ap (λ (b : Bool). cond b rest (breaks rules.OwnWord)) may
 
 pays_on : (site : Site) (s : State) (rest : State → Ruling) → site.length ≤ s.number
     → pays site s rest ≡ rest (record s { number = s.number - site.length })
@@ -73,11 +70,7 @@ leads_is site to s row cost row_is cost_is =
     ]) row_is
     ∙ ap (λ (r : Result ℕ Rule). elim r as (λ r. Ruling) [ Ok cost ↦ leads to | Err broken ↦ breaks broken ]) cost_is
 
--- a jump leads so many bytes behind the instruction
-leads_behind : (next bytes : ℕ) → next + bytes < 2 ^ 32 → target next (pos bytes) ≡ next + bytes
-leads_behind next bytes small = omega (arith, ints, small)
-
--- and back to a place before it
+-- a jump leads back to a place before it
 leads_back : (next back : ℕ) → back ≤ next → next < 2 ^ 31 → target next (pos 0 -ℤ pos (next - back)) ≡ back
 leads_back next back before small = omega (arith, ints, before, small)
 
@@ -220,7 +213,7 @@ module _ (m : Contents) (tables : List ℤ → ℕ) where
     unfolding word_pointed
     word_found word =
         let quarter : (4 * word) / 4 ≡ word = omega arith in
-        rw (same_number, stepped) (ap (λ (n : ℕ). Some (pos n)) quarter)
+        rw (same_word, stepped) (ap (λ (n : ℕ). Some (pos n)) quarter)
 
     block_found : (at size number : ℕ) (s : Told) (fact : Fact) (word : ℕ) (loop : CountedLoop) (last : ℤ)
         → fact ≡ word_pointer word → s.frame (pos word) ≡ Index loop → s.frame (pos (word + 1)) ≡ Count loop
@@ -261,7 +254,7 @@ module _ (m : Contents) (tables : List ℤ → ℕ) where
         let back : target (at + size) (pos 0 -ℤ pos d) ≡ head =
         leads_back (at + size) head (omega (arith, some)) small in
         let far : int_le (pos 1) (pos d) ≡ true = grind (arith, ints) in
-        let passes : (is_same_number (pos d) (pos d) && int_le (pos 1) (pos d)) ≡ true = rw (same_number, far) refl in
+        let passes : (is_same_number (pos d) (pos d) && int_le (pos 1) (pos d)) ≡ true = rw (same_word, far) refl in
         ap (λ (b : Bool). cond b (beginning_at (site at size) (target (at + size) (pos 0 -ℤ pos d))) None) passes
         ∙ ap (λ (n : ℕ). beginning_at (site at size) n) back
         ∙ ap (λ (b : Bool). cond b (option_map (begins_at head) (label_at m head)) None) (le-leb head at before)

@@ -1,4 +1,3 @@
-pub mod SameNumbers
 pub mod JoinedEntries
 pub mod Ways
 pub mod Scheduling
@@ -6,7 +5,6 @@ pub mod RootRows
 pub mod LeavingRules
 pub mod PieceLists
 pub mod TablesPlaced
-pub mod AddressRules
 pub mod PiecesPass
 pub mod Certifying
 pub mod PassingLaws

@@ -8,6 +8,7 @@ use Rattle.code_pieces.specs.declared.piece.RowEntry.{RowEntry}
 use Rattle.code_pieces.specs.declared.piece.Workspace.{Workspace}
 use Rattle.code_pieces.specs.Pieces.{Piece, Direct, Jump, JumpUnless, LoopBack, Distance, StartBranch, Select}
 use Rattle.code_pieces.specs.Pieces.{TableAddress, Row, Place, Within, Par}
+use Rattle.code_pieces.specs.Pars.{in_root}
 use Rattle.code_pieces.specs.Placing.{label_in}
 use Rattle.code_pieces.specs.Laying.{workspace_behind, at_row_behind, pars_of}
 use Rattle.placed_code.specs.LaidCode.{item_count, workspace_after, labels_in}
@@ -41,44 +42,32 @@ IsAlone (Within workspace) = ⊥
 IsAlone (Par par) = ⊥
 IsAlone p = Unit {0}
 
-behind_alone : (p : Piece) (w : Workspace) → IsAlone p → workspace_behind p w ≡ w
-behind_alone (Direct f e) w is = refl
-behind_alone (Jump to) w is = refl
-behind_alone (JumpUnless to) w is = refl
-behind_alone (LoopBack head behind) w is = refl
-behind_alone (Distance from to) w is = refl
-behind_alone (StartBranch entry successor) w is = refl
-behind_alone (Select targets) w is = refl
-behind_alone (TableAddress values) w is = refl
-behind_alone (Row l entries) w is = refl
-behind_alone (Place l) w is = refl
-behind_alone (Within workspace) w is = absurd is
-behind_alone (Par par) w is = absurd is
+-- so the workspace behind it is the one before it, and it adds no PAR
+alone_leaves : (p : Piece) (w : Workspace) (ps : List Piece) → IsAlone p
+    → (workspace_behind p w ≡ w) × (pars_of (p ∷ ps) ≡ pars_of ps)
+alone_leaves (Direct f e) w ps is = (refl, refl)
+alone_leaves (Jump to) w ps is = (refl, refl)
+alone_leaves (JumpUnless to) w ps is = (refl, refl)
+alone_leaves (LoopBack head behind) w ps is = (refl, refl)
+alone_leaves (Distance from to) w ps is = (refl, refl)
+alone_leaves (StartBranch entry successor) w ps is = (refl, refl)
+alone_leaves (Select targets) w ps is = (refl, refl)
+alone_leaves (TableAddress values) w ps is = (refl, refl)
+alone_leaves (Row l entries) w ps is = (refl, refl)
+alone_leaves (Place l) w ps is = (refl, refl)
+alone_leaves (Within workspace) w ps is = absurd is
+alone_leaves (Par par) w ps is = absurd is
 
 -- the workspace stays where it is
 pub workspace_alone : (ps : List Piece) (w : Workspace) → AllByRecursion IsAlone ps → workspace_after ps w ≡ w
 workspace_alone [] w all = refl
 workspace_alone (p ∷ ps) w all =
-    ap (λ (v : Workspace). workspace_after ps v) (behind_alone p w all.0) ∙ workspace_alone ps w all.1
-
-pars_alone : (p : Piece) (ps : List Piece) → IsAlone p → pars_of (p ∷ ps) ≡ pars_of ps
-pars_alone (Direct f e) ps is = refl
-pars_alone (Jump to) ps is = refl
-pars_alone (JumpUnless to) ps is = refl
-pars_alone (LoopBack head behind) ps is = refl
-pars_alone (Distance from to) ps is = refl
-pars_alone (StartBranch entry successor) ps is = refl
-pars_alone (Select targets) ps is = refl
-pars_alone (TableAddress values) ps is = refl
-pars_alone (Row l entries) ps is = refl
-pars_alone (Place l) ps is = refl
-pars_alone (Within workspace) ps is = absurd is
-pars_alone (Par par) ps is = absurd is
+    ap (λ (v : Workspace). workspace_after ps v) (alone_leaves p w ps all.0).0 ∙ workspace_alone ps w all.1
 
 -- there are no PARs
 pub no_pars : (ps : List Piece) → AllByRecursion IsAlone ps → pars_of ps ≡ []
 no_pars [] all = refl
-no_pars (p ∷ ps) all = pars_alone p ps all.0 ∙ no_pars ps all.1
+no_pars (p ∷ ps) all = (alone_leaves p in_root ps all.0).1 ∙ no_pars ps all.1
 
 straight_alone : {g : Setting} {s t : Told} {ps : List Piece} → FallOn g ps s t → AllByRecursion IsAlone ps
 straight_alone done = tt

@@ -35,7 +35,7 @@ use Rattle.code_pieces.specs.LaidModule.{Says, laid_module}
 use Rattle.code_pieces.specs.Laying.{operand_at}
 use Rattle.code_pieces.specs.DraftedRows.{said_row}
 use Rattle.placed_code.specs.LaidCode.{LaidCode, Fetches, Lie, more, IsAt, laid_code, item_count, workspace_after}
-use Rattle.placed_code.specs.LaidCode.{LabelsArePlacedOnce, StaysAt, labels_in}
+use Rattle.placed_code.specs.LaidCode.{LabelsArePlacedOnce, Reaches, StaysAt, labels_in}
 use Rattle.placed_code.specs.LaidCode as laid
 use Rattle.placed_code.specs.RowsFound.{SaysRow, row_of}
 use Rattle.placed_code.specs.NumbersCover.{bytes_after, Covers, PaysAndCovers, row_number, loop_weight}
@@ -59,6 +59,7 @@ use Rattle.certified_modules.specs.Passing.{Passage, OpenLabel, open_label, IsOp
 use Rattle.certified_modules.specs.Passing.{PassOn, none, both, straight, stops, places, jumps, tests, closes, loops}
 use Rattle.certified_modules.specs.RootRows.{root_passage, root_row}
 use Rattle.certified_modules.specs.Ways.{IsIn, IsPassed, Passes, over, on}
+use Rattle.certified_lines.proofs.Walking.{loaded_falls, filled_falls, place_falls}
 use Rattle.certified_modules.proofs.RootRows.{rows_say_their_pieces, implied_rows_are_below, entered_rows_are_below}
 use Rattle.certified_modules.proofs.PieceLists.{IsAlone, all_front, all_back, workspace_alone, no_pars, row_behind}
 use Rattle.certified_modules.proofs.PieceLists.{row_behind_both, no_row_last, is_earlier, is_equal, is_later, split}
@@ -66,7 +67,6 @@ use Rattle.certified_modules.proofs.PieceLists.{labels_front, heads_absent, plac
 use Rattle.certified_modules.proofs.Ways.{ways_follow}
 use Rattle.certified_modules.proofs.Scheduling.{word_below, scheduled, scheduling_keeps, implied_kept, turns_keep}
 use Rattle.certified_modules.proofs.LeavingRules.{FallsInto, gone, jump_leads, stop_ends, no_stop, loop_turns}
-use Rattle.certified_modules.proofs.AddressRules.{loaded_falls, filled_falls, place_falls}
 use Rattle.certified_modules.proofs.TablesPlaced.{tables_lead}
 use Rattle.certified_modules.specs.Certifying.{HasValues}
 
@@ -572,24 +572,40 @@ module _ (ps : List Piece) (labels : ℕ) (links bytes : List ℕ) (says : Says 
         stands = place_stands front rest l s fell same stands;
       }
 
-  -- where a label is and what its row says, further on
-  ahead_is : (front : List Piece) (p : Piece) (rest : List Piece) (l : ℕ) (entries : List RowEntry)
-      → ps ≡ front ++ p ∷ rest → (ahead : LeadsTo rest (open_label l entries))
-      → (c.labels l ≡ at_of (front ++ p ∷ ahead.middle))
-      × (label_at m (at_of (front ++ p ∷ ahead.middle)) ≡ Some (row l entries))
-      × (at_of (front ++ p ∷ []) ≤ at_of (front ++ p ∷ ahead.middle))
-  ahead_is front p rest l entries whole ahead =
+  -- an instruction that goes further on to the row of a label, by what its rule says at the distance of the row
+  leads_ahead : (front : List Piece) (p : Piece) (rest : List Piece) (l : ℕ) (entries : List RowEntry) (f : Fun)
+      (fell : Option State) (s : State) (r : Ruling) → ps ≡ front ++ p ∷ rest
+      → (ahead : LeadsTo rest (open_label l entries)) → Reaches c (at_of front) f l (at_of (front ++ p ∷ []))
+      → IsIn m (at_of front) fell s → ((broken : Rule) → r ≢ breaks broken)
+      → ((size gap : ℕ) → at_of front + size ≡ at_of (front ++ p ∷ [])
+      → at_of front + size + gap ≡ at_of (front ++ p ∷ ahead.middle) → at_of front + size + gap ≤ MAX_LONG_CODE
+      → label_at m (at_of front + size + gap) ≡ Some (row l entries)
+      → rule (record { contents = m; at = at_of front; length = size }) f (pos gap) s ≡ r)
+      → Passes m (at_of front) fell (at_of (front ++ p ∷ [])) (falling r)
+  leads_ahead front p rest l entries f fell s r whole ahead there is_in unbroken leaves =
+      let at : ℕ = at_of front in
+      let to : ℕ = at_of (front ++ p ∷ []) in
       let before : List Piece = front ++ p ∷ ahead.middle in
+      let far : ℕ = at_of before in
       let is : ps ≡ before ++ Row l entries ∷ ahead.says.rest =
       whole ∙ ap (λ (qs : List Piece). front ++ p ∷ qs) ahead.says.whole
       ∙ sym (append_assoc front (p ∷ ahead.middle) (Row l entries ∷ ahead.says.rest)) in
-      let there = row_there before l entries ahead.says.rest is in
+      let row_is = row_there before l entries ahead.says.rest is in
       let first = item_count-append front (p ∷ []) in
-      let all = item_count-append front (p ∷ ahead.middle) in (
-        there.0,
-        there.1,
-        offset_rises lengths (item_count (front ++ p ∷ [])) (item_count before) (omega (arith, first, all)),
-      )
+      let all = item_count-append front (p ∷ ahead.middle) in
+      let further : to ≤ far =
+      offset_rises lengths (item_count (front ++ p ∷ [])) (item_count before) (omega (arith, first, all)) in
+      let small = at_small before in
+      let distance : there.operand ≡ pos (far - to) =
+      bytes_ahead to far there.operand (fetches_some there.fetches).1 further (omega (arith, small))
+      (there.reaches ∙ row_is.0) in
+      one_passes at to fell s f there.operand r is_in there.fetches
+      (λ k above below. no_row_in front p rest k whole above below)
+      (λ size ends.
+      let same : at + size + (far - to) ≡ far = omega (arith, ends, further) in
+      ap (λ (e : ℤ). rule (record { contents = m; at = at; length = size }) f e s) distance
+      ∙ leaves size (far - to) ends same (omega (arith, same, small))
+      (subst (λ (n : ℕ). label_at m n ≡ Some (row l entries)) (sym same) row_is.1)) unbroken
 
   jump_moves : (front rest : List Piece) (l : ℕ) (entries : List RowEntry) (s : Told) (fell : Option State)
       → ps ≡ front ++ Jump l ∷ rest → LeadsTo rest (open_label l entries) → Implies g.weights s.frame entries
@@ -598,36 +614,25 @@ module _ (ps : List Piece) (labels : ℕ) (links bytes : List ℕ) (says : Says 
       let p : Piece = Jump l in
       let at : ℕ = at_of front in
       let to : ℕ = at_of (front ++ p ∷ []) in
-      let there = lies front p rest whole in
       let count = item_count-append front (p ∷ []) in
       let begin = begins_in front p rest s fell whole (omega (arith, count)) stands in
       let takes = bytes_are front p in
       let comes : ComesAfter ps labels front p rest = record { whole = whole; once = once } in
       let pays = numbers_cover.jumps ps labels lengths front l rest ahead.middle entries begin.number comes ahead.says
       begin.covers in
-      let ahead_row = ahead_is front p rest l entries whole ahead in
       let far : ℕ = at_of (front ++ p ∷ ahead.middle) in
-      let small = at_small (front ++ p ∷ ahead.middle) in
-      let bytes : there.operand ≡ pos (far - to) =
-      bytes_ahead to far there.operand (fetches_some there.fetches).1 ahead_row.2 (omega (arith, small))
-      (there.reaches ∙ ahead_row.0) in
       record {
         after = None;
-        way = one_passes at to fell (state_of g.setting s begin.number) fun.Jump there.operand (leads far) begin.is_in
-            there.fetches (λ k above below. no_row_in front p rest k whole above below)
-            (λ size ends.
-            let same : at + size + (far - to) ≡ far = omega (arith, ends, ahead_row.2) in
-            ap (λ (e : ℤ). rule (record { contents = m; at = at; length = size }) fun.Jump e
-            (state_of g.setting s begin.number)) bytes
-            ∙ jump_leads m g.setting.tables may_take at size begin.number (far - to) (row_number ps lengths l) s
-            (row l entries) (omega (arith, same, small)) (omega (arith, ends, takes, pays))
-            (subst (λ (n : ℕ). label_at m n ≡ Some (row l entries)) (sym same) ahead_row.1)
+        way = leads_ahead front p rest l entries fun.Jump fell (state_of g.setting s begin.number) (leads far) whole
+            ahead (lies front p rest whole) begin.is_in (λ broken no. cc)
+            (λ size gap ends same small there.
+            jump_leads m g.setting.tables may_take at size begin.number gap (row_number ps lengths l) s (row l entries)
+            (omega (arith, small)) (omega (arith, ends, takes, pays)) there
             (implied_rows_are_below ps labels links says.arrangement l entries (gone m g.setting.tables s)
             (begin.number - size)
             (implied_kept g.weights s.frame (scheduled s.frame) entries (scheduling_keeps s.frame) implied)
             (omega (arith, ends, takes, pays)))
-            ∙ ap leads same)
-            (λ broken no. cc);
+            ∙ ap leads same);
         stands = nowhere;
       }
 
@@ -640,39 +645,26 @@ module _ (ps : List Piece) (labels : ℕ) (links bytes : List ℕ) (says : Says 
       let at : ℕ = at_of front in
       let to : ℕ = at_of (front ++ p ∷ []) in
       let size : ℕ = bytes_after front lengths p in
-      let there = lies front p rest whole in
       let count = item_count-append front (p ∷ []) in
       let begin = begins_in front p rest s fell whole (omega (arith, count)) stands in
       let takes = bytes_are front p in
       let comes : ComesAfter ps labels front p rest = record { whole = whole; once = once } in
       let pays = numbers_cover.tests ps labels lengths front l rest ahead.middle entries begin.number comes ahead.says
       begin.covers in
-      let ahead_row = ahead_is front p rest l entries whole ahead in
       let far : ℕ = at_of (front ++ p ∷ ahead.middle) in
-      let small = at_small (front ++ p ∷ ahead.middle) in
-      let bytes : there.operand ≡ pos (far - to) =
-      bytes_ahead to far there.operand (fetches_some there.fetches).1 ahead_row.2 (omega (arith, small))
-      (there.reaches ∙ ahead_row.0) in
       let after : State = state_of g.setting (fallen_told s) (begin.number - size) in
       record {
         after = Some after;
-        way = one_passes at to fell (state_of g.setting s begin.number) fun.ConditionalJump there.operand
-            (falls_or_leads after far) begin.is_in there.fetches
-            (λ k above below. no_row_in front p rest k whole above below)
-            (λ n ends.
-            let same : at + n + (far - to) ≡ far = omega (arith, ends, ahead_row.2) in
+        way = leads_ahead front p rest l entries fun.ConditionalJump fell (state_of g.setting s begin.number)
+            (falls_or_leads after far) whole ahead (lies front p rest whole) begin.is_in (λ broken no. cc)
+            (λ n gap ends same small there.
             let equal : n ≡ size = omega (arith, ends, takes) in
-            ap (λ (e : ℤ). rule (record { contents = m; at = at; length = n }) fun.ConditionalJump e
-            (state_of g.setting s begin.number)) bytes
-            ∙ jumps_fork g.setting at n begin.number (far - to) (row_number ps lengths l) s r (row l entries)
-            (omega (arith, same, small)) fact range (omega (arith, equal, pays.1))
-            (subst (λ (k : ℕ). label_at m k ≡ Some (row l entries)) (sym same) ahead_row.1)
+            jumps_fork g.setting at n begin.number gap (row_number ps lengths l) s r (row l entries)
+            (omega (arith, small)) fact range (omega (arith, equal, pays.1)) there
             (implied_rows_are_below ps labels links says.arrangement l entries (jumped s) (begin.number - n) implied
             (omega (arith, equal, pays.0)))
-            ∙ ap (λ (k : ℕ). falls_or_leads (state_of g.setting (fallen_told s) (begin.number - k))
-            (at + n + (far - to))) equal
-            ∙ ap (λ (k : ℕ). falls_or_leads after k) same)
-            (λ broken no. cc);
+            ∙ ap (λ (k : ℕ). falls_or_leads (state_of g.setting (fallen_told s) (begin.number - k)) (at + n + gap)) equal
+            ∙ ap (λ (k : ℕ). falls_or_leads after k) same);
         stands = fallen (row_behind_both false front (p ∷ [])) (omega (arith, pays.1));
       }
 

@@ -37,7 +37,7 @@ use Rattle.certified_modules.specs.RowsSay.{fact_said, entry_said, facts_said, I
 use Rattle.certified_modules.specs.RowsSay.{IsEntered, Enters, block, other}
 use Rattle.certified_modules.specs.RootRows.{root_setting, root_row, weights_of, RowsSayTheirPieces}
 use Rattle.certified_modules.specs.RootRows.{ImpliedRowsAreBelow, EnteredRowsAreBelow}
-use Rattle.certified_modules.proofs.SameNumbers.{same_number, same_loop}
+use Rattle.certified_lines.proofs.Operands.{same_loop, same_word}
 use Rattle.certified_modules.proofs.JoinedEntries.{words_in, all_said}
 
 -- ---- what is said of a word
@@ -151,7 +151,7 @@ module _ (W : List Numbered) (f : Facts) where
       ∙ block_passes f word loop (Index loop) (Count loop) is.1 is.2 (same_loop loop) (same_loop loop)
 
   exactly : (k : ℤ) → is_exactly (Number k k) k ≡ true
-  exactly k = rw (same_number k) refl
+  exactly k = rw (same_word k) refl
 
   entered_passes : (head count : ℕ) (e : RowEntry) → IsEntered f head count e → passes e ≡ true
   entered_passes head count e is =

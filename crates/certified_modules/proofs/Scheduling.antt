@@ -3,7 +3,6 @@
 use Rattle.std.proofs.Common.{◌≡◌, ◌⊎◌, ℕ, zero, suc, ◌+◌, ℤ, pos, negsuc, ◌+ℤ◌, ◌-ℤ◌, Bool, true, false, cond}
 use Rattle.std.proofs.Common.{List, [], ◌∷◌, inl, inr, refl, sym, ap, subst, ◌∙◌, arith}
 use Rattle.std.proofs.lemmas.Int.{ints}
-use Rattle.rulings.proofs.Words.{word_test}
 use Rattle.module_format.specs.Rows.{Fact}
 use Rattle.module_format.specs.declared.fact.Fact.TheVariants.{Unknown, Number}
 use Rattle.states.specs.declared.known.Loop.{Loop as CountedLoop}
@@ -14,6 +13,7 @@ use Rattle.states.specs.Below.{implies}
 use Rattle.code_pieces.specs.declared.piece.RowEntry.{RowEntry}
 use Rattle.code_pieces.specs.declared.piece.WordFact.{WordFact as RowFact}
 use Rattle.code_pieces.specs.declared.piece.WordFact.TheVariants.{Between, Turning}
+use Rattle.certified_lines.proofs.Operands.{other_word}
 use Rattle.certified_modules.specs.RowsSay.{IsSaid, Implies, loop_said}
 use Rattle.certified_modules.specs.Passing.{after_turns}
 
@@ -64,12 +64,6 @@ kept_index loop a b is (inr count) =
     absurd (cc)
 
 -- ---- a word below the workspace
-
-other_word : (j k : ℤ) → (j ≡ k → ⊥) → is_same_number j k ≡ false
-other_word j k apart = elim (word_test j k) [
-  | inl same ↦ absurd (apart same.1)
-  | inr other ↦ other.0
-]
 
 -- what is known of a word after a write elsewhere, by what was known
 untouched : (at k : ℤ) (fact : Fact) (f : Facts) (old : WordFact) → f k ≡ old → is_same_number k at ≡ false

@@ -28,7 +28,8 @@ use Rattle.placed_code.proofs.Finishing.{length-spelled, all-offset}
 use Rattle.placed_code.proofs.PiecesLie.{length-table}
 use Rattle.certified_lines.specs.StraightRules.{table_fact}
 use Rattle.certified_modules.specs.RootRows.{root_setting}
-use Rattle.certified_modules.proofs.SameNumbers.{stepped}
+use Rattle.std.proofs.lemmas.Bool.Decides.{nat_tests}
+use Rattle.module_format.specs.Order.{is_stepped}
 
 -- ---- tables among others
 
@@ -163,6 +164,10 @@ begins_at_word (t ∷ ts) values =
 distance_is : (start to far : ℕ) (d : ℤ) → FitsSigned w32 d → to < 2 ^ 30 → far < 2 ^ 30
     → ((start + to) % 2 ^ 32 + address d) % 2 ^ 32 ≡ (start + far) % 2 ^ 32 → pos to +ℤ d ≡ pos far
 distance_is start to far d word small high is = omega (arith, ints, word, small, high, is)
+
+-- a word is at a multiple of four
+pub stepped : (word : ℕ) → is_stepped (pos (4 * word)) ≡ true
+stepped word = grind (arith, nat_tests)
 
 -- a place so far behind the code, which has its padding, is one of the constants
 fact_placed : (m : Contents) (word : ℕ) → 4 * word < length m.constants

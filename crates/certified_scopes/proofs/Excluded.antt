@@ -1,34 +1,15 @@
 -- What is known of the names around a block where a choice of it was not taken.
-use Rattle.std.proofs.Common.{◌≡◌, ℕ, suc, ◌≤◌, Bool, true, false, cond, List, [], ◌∷◌, length, Option, Some, None}
-use Rattle.std.proofs.Common.{refl, sym, ap, ◌∙◌, arith, nat_eq, nat_lt, bytes_eq}
+use Rattle.std.proofs.Common.{◌≡◌, ℕ, suc, Bool, true, false, cond, List, [], ◌∷◌, length, Option, Some, None}
+use Rattle.std.proofs.Common.{refl, sym, ap, ◌∙◌, arith, nat_eq, nat_lt}
 use Rattle.std.proofs.lemmas.Bool.{ltb-false}
 use Rattle.std.proofs.lemmas.Bool.Decides.{nat_tests}
-use Rattle.word_arithmetic.specs.Range.{Ends}
 use Rattle.scalar_ranges.specs.Entries.{Entry, number_in}
 use Rattle.scalar_ranges.specs.Moves.{outermost, at_number, with_meaning, excluded_at, excluded_by}
 use Rattle.scalar_ranges.specs.Narrowing.{Tested, test_of, with_range, changed, by_test, left_of, opposite}
-use Rattle.scalar_ranges.proofs.Named.{changed_at}
+use Rattle.scalar_ranges.proofs.Named.{changed_at, unchanged}
 use Rattle.scalar_ranges.proofs.Nesting.{outermost_short}
+use Rattle.scalar_ranges.proofs.Rows.{none_at}
 use Rattle.certified_scopes.specs.Within.{ExcludedIsNarrowed}
-
--- without the name nothing changes
-unnamed_by : (t : Bool) (f : Ends → Ends) (name : List ℕ) (e : Entry) (es : List Entry)
-    → cond t (Some (length es)) (number_in name es) ≡ None → (number_in name es ≡ None → changed f name es ≡ es)
-    → cond t (record { name = e.name; meaning = with_range f e.meaning } ∷ es) (e ∷ changed f name es) ≡ e ∷ es
-unnamed_by true f name e es none further = absurd (cc none)
-unnamed_by false f name e es none further = ap (λ (xs : List Entry). e ∷ xs) (further none)
-
-unnamed : (f : Ends → Ends) (name : List ℕ) (es : List Entry) → number_in name es ≡ None → changed f name es ≡ es
-unnamed f name [] none = refl
-unnamed f name (e ∷ es) none = unnamed_by (bytes_eq e.name name) f name e es none (unnamed f name es)
-
--- nor where no item has the number
-at_none : {A : Type 0} (f : A → A) (n : ℕ) (xs : List A) → length xs ≤ n → at_number f n xs ≡ xs
-at_none f n [] few = refl
-at_none {A = A} f n (x ∷ xs) few =
-    let other : nat_eq (length xs) n ≡ false = grind (arith, nat_tests, few) in
-    ap (λ (t : Bool). cond t (f x ∷ xs) (x ∷ at_number f n xs)) other
-    ∙ ap (λ (ys : List A). x ∷ ys) (at_none f n xs (omega (arith, few)))
 
 at_long : {A : Type 0} (f : A → A) (n : ℕ) (xs : List A) → length (at_number f n xs) ≡ length xs
 at_long f n [] = refl
@@ -57,7 +38,7 @@ outer_by false true f n count x xs is at further =
     let same : length xs ≡ n = grind (arith, nat_tests, at) in
     let short = outermost_short count xs in
     ap (λ (t : Bool). cond t (f x ∷ xs) (outermost count xs)) is
-    ∙ sym (at_none f n (outermost count xs) (omega (arith, above, same, short)))
+    ∙ sym (none_at f n (outermost count xs) (omega (arith, above, same, short)))
 outer_by false false f n count x xs is at further =
     ap (λ (i : ℕ). cond (nat_lt i count) (x ∷ at_number f n xs) (outermost count (at_number f n xs))) (at_long f n xs)
     ∙ ap (λ (t : Bool). cond t (x ∷ at_number f n xs) (outermost count (at_number f n xs))) is ∙ further
@@ -72,7 +53,7 @@ by_named : (o : Option ℕ) (t : Tested) (es ds : List Entry) → number_in t.na
     → outermost (length ds) (changed (left_of (opposite t.comparison) t.constant) t.name es) ≡ excluded_at o t ds
 by_named None t es ds is same =
     ap (λ (xs : List Entry). outermost (length ds) xs)
-    (unnamed (left_of (opposite t.comparison) t.constant) t.name es is)
+    (unchanged (left_of (opposite t.comparison) t.constant) t.name es is)
     ∙ same
 by_named (Some n) t es ds is same =
     let f = with_range (left_of (opposite t.comparison) t.constant) in

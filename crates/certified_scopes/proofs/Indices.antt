@@ -1,15 +1,13 @@
 -- Moves within a scope leave the ranges of indices as they are.
-use Rattle.std.proofs.Common.{◌≡◌, ℕ, suc, ◌≤◌, ℤ, Bool, true, false, cond, List, [], ◌∷◌, length, Option}
+use Rattle.std.proofs.Common.{◌≡◌, ℕ, suc, ◌≤◌, Bool, true, false, cond, List, [], ◌∷◌, length, Option}
 use Rattle.std.proofs.Common.{Some, None, Result, Ok, Err, refl, sym, ap, subst, ◌∙◌, arith, nat_eq, nat_lt, bytes_eq}
 use Rattle.std.specs.Prelude.{option_map}
 use Rattle.std.proofs.lemmas.Bool.Decides.{nat_tests}
 use Rattle.std.proofs.lemmas.Int.{ints, clamps}
 use Rattle.word_arithmetic.specs.Range.{Ends, hull}
-use Rattle.word_arithmetic.specs.declared.compare.Comparison.{Comparison}
 use Rattle.occam_parser.specs.declared.tree.ValueType.{ValueType}
 use Rattle.occam_parser.specs.declared.tree.PairOperator.TheVariants as pair
-use Rattle.occam_parser.specs.Expressions.{Expression, Paired, Term, Named, Number, Byte, Truth, MostPos, MostNeg}
-use Rattle.occam_parser.specs.Expressions.{Element, Bracketed, Converted}
+use Rattle.occam_parser.specs.Expressions.{Expression, Paired}
 use Rattle.occam_parser.specs.Lines.{Action, Skip, Stop, Assign, Input, Output, Instance}
 use Rattle.scalar_ranges.specs.declared.scope.ScalarKind.{ScalarKind}
 use Rattle.scalar_ranges.specs.declared.scope.ScalarKind.TheVariants as kinds
@@ -20,15 +18,16 @@ use Rattle.scalar_ranges.specs.Environments.{item_at}
 use Rattle.scalar_ranges.specs.MoveLaws.{shape, meaning_at}
 use Rattle.scalar_ranges.specs.Moves.{outermost, at_number, with_meaning, ranged, widened_if, is_one_of, widen}
 use Rattle.scalar_ranges.specs.Moves.{hull_meaning, hulls, excluded_at, excluded_by}
-use Rattle.scalar_ranges.specs.Narrowing.{Tested, test_of, tested, first_of, turned, is_narrowed, constant_in}
+use Rattle.scalar_ranges.specs.Narrowing.{Tested, test_of, is_narrowed}
 use Rattle.scalar_ranges.specs.Narrowing.{with_range}
 use Rattle.scalar_ranges.specs.Narrowing.{changed, by_test, left_of, as_holds, opposite, narrow}
-use Rattle.scalar_ranges.specs.Types.{named_type}
 use Rattle.scalar_ranges.proofs.MoveLaws.{flat, hull_cases}
 use Rattle.scalar_ranges.proofs.Named.{meaning_found}
+use Rattle.scalar_ranges.proofs.Nesting.{long_alike}
 use Rattle.program_uses.specs.Instances.{variable_at}
 use Rattle.program_uses.specs.Signatures.{Parameter, parameters_in}
 use Rattle.usage_checks.specs.Following.{receive_if, assign_if, passed_to, after_actuals, after_action}
+use Rattle.certified_lines.proofs.Conditions.{left, right, sides_of}
 use Rattle.certified_scopes.specs.Within.{index_of_loop, indices_of, IndicesStay}
 
 -- ---- one entry
@@ -74,44 +73,12 @@ index_there d e ds es same = (
 -- ---- conditions
 
 -- what is tested is narrowed
-option_by : (o : Option ℤ) (name : List ℕ) (c : Comparison) (test : Tested)
-    → option_map (λ v. record { name = name; comparison = c; constant = v }) o ≡ Some test → test.name ≡ name
-option_by None name c test is = absurd (cc is)
-option_by (Some v) name c test is =
-    let same : record { name = name; comparison = c; constant = v } ≡ test = cc in
-    sym (ap (λ (t : Tested). t.name) same)
-
-narrowed_by : (b : Bool) (es : List Entry) (o : Option ℤ) (name : List ℕ) (c : Comparison) (test : Tested)
-    → is_narrowed (meaning_in name es) ≡ b
-    → cond b (option_map (λ v. record { name = name; comparison = c; constant = v }) o) None ≡ Some test
-    → is_narrowed (meaning_in test.name es) ≡ true
-narrowed_by true es o name c test narrows is =
-    subst (λ (n : List ℕ). is_narrowed (meaning_in n es) ≡ true) (sym (option_by o name c test is)) narrows
-narrowed_by false es o name c test narrows is = absurd (cc is)
-
-tested_narrows : (es : List Entry) (c : Comparison) (x y : Term) (test : Tested) → tested es c x y ≡ Some test
-    → is_narrowed (meaning_in test.name es) ≡ true
-tested_narrows es c (Named name) y test is =
-    narrowed_by (is_narrowed (meaning_in name es)) es (constant_in es (named_type (meaning_in name es)) y) name c test
-    refl is
-tested_narrows es c (Number value) y test is = absurd (cc is)
-tested_narrows es c (Byte byte) y test is = absurd (cc is)
-tested_narrows es c (Truth holds) y test is = absurd (cc is)
-tested_narrows es c MostPos y test is = absurd (cc is)
-tested_narrows es c MostNeg y test is = absurd (cc is)
-tested_narrows es c (Element name e) y test is = absurd (cc is)
-tested_narrows es c (Bracketed e) y test is = absurd (cc is)
-tested_narrows es c (Converted to x) y test is = absurd (cc is)
-
-either_narrows : (o : Option Tested) (es : List Entry) (c : Comparison) (x y : Term) (test : Tested)
-    → tested es c x y ≡ o → first_of o (tested es (turned c) y x) ≡ Some test
-    → is_narrowed (meaning_in test.name es) ≡ true
-either_narrows None es c x y test there is = tested_narrows es (turned c) y x test is
-either_narrows (Some u) es c x y test there is = tested_narrows es c x y test (there ∙ is)
-
 pub test_narrows : (es : List Entry) (e : Expression) (test : Tested) → test_of es e ≡ Some test
     → is_narrowed (meaning_in test.name es) ≡ true
-test_narrows es (Paired (pair.Comparison c) a b) test is = either_narrows (tested es c a b) es c a b test refl is
+test_narrows es (Paired (pair.Comparison c) a b) test is = elim (sides_of es c a b test is) [
+  | left first ↦ first.narrows
+  | right second ↦ second.narrows
+]
 test_narrows es e test is = absurd (cc is)
 
 changed_by : (t : Bool) (f : Ends → Ends) (name : List ℕ) (e : Entry) (es : List Entry)
@@ -214,12 +181,6 @@ shape_there d e ds es same = (
   tail_flat (flat_entry d) (flat_entry e) (shape ds) (shape es) same,
 )
 
-pub shape_lengths : (ds es : List Entry) → shape ds ≡ shape es → length ds ≡ length es
-shape_lengths [] [] same = refl
-shape_lengths [] (e ∷ es) same = absurd (cc same)
-shape_lengths (d ∷ ds) [] same = absurd (cc same)
-shape_lengths (d ∷ ds) (e ∷ es) same = ap suc (shape_lengths ds es (shape_there d e ds es same).1)
-
 meanings_alike : (n : ℕ) (ds es : List Entry) → shape ds ≡ shape es
     → option_map flat (meaning_at n ds) ≡ option_map flat (meaning_at n es)
 meanings_alike n [] [] same = refl
@@ -227,7 +188,7 @@ meanings_alike n [] (e ∷ es) same = absurd (cc same)
 meanings_alike n (d ∷ ds) [] same = absurd (cc same)
 meanings_alike n (d ∷ ds) (e ∷ es) same =
     let both = shape_there d e ds es same in
-    ap (λ (i : ℕ). option_map flat (cond (nat_eq i n) (Some d.meaning) (meaning_at n ds))) (shape_lengths ds es both.1)
+    ap (λ (i : ℕ). option_map flat (cond (nat_eq i n) (Some d.meaning) (meaning_at n ds))) (long_alike ds es both.1)
     ∙ there_by (nat_eq (length es) n) d e ds es n both.0 (meanings_alike n ds es both.1)
 
 none_at : (n : ℕ) (es : List Entry) → length es ≤ n → meaning_at n es ≡ None

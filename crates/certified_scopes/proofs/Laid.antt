@@ -2,7 +2,7 @@
 use Rattle.std.proofs.Common.{◌≡◌, ℕ, ◌≤◌, ◌&&◌, pos, Bool, true, List, [], ◌++◌, Option, refl, sym, ap, subst, ◌∙◌}
 use Rattle.std.proofs.Common.{arith, map}
 use Rattle.std.specs.Prelude.{int_le, int_lt}
-use Rattle.std.proofs.lemmas.Bool.{and_parts}
+use Rattle.std.proofs.lemmas.Bool.{and_from, and_parts}
 use Rattle.std.proofs.lemmas.Int.{ints}
 use Rattle.small_laws.proofs.Comparisons.{int_lt-true, le-int_le, lt-int_lt}
 use Rattle.module_format.specs.declared.contexts.Context.{Context}
@@ -25,7 +25,6 @@ use Rattle.line_pieces.specs.Declarations.{facts_in}
 use Rattle.certified_scopes.specs.Kept.{at_homes}
 use Rattle.certified_scopes.specs.Laid.{LowerWordsMayBeRead, ModulesAreFounded, RowsAreOfScopes}
 use Rattle.certified_scopes.specs.Rows.{IsRowOf}
-use Rattle.certified_scopes.proofs.NamedFacts.{and_true}
 use Rattle.certified_scopes.proofs.Tables.{tables_say_their_range}
 use Rattle.placed_code.specs.TablesInMemory.{ReadsTable}
 use Rattle.code_pieces.specs.Laying.{tables_before}
@@ -48,7 +47,7 @@ root_words ps labels links a v w none low may =
     let high = int_lt-true (pos w) root.hi inside.1 in
     let here : has_word (context_at m 0) (pos v) ≡ true =
     ap (λ (o : Option Context). has_word o (pos v)) there
-    ∙ and_true (int_le root.lo (pos v)) (int_lt (pos v) root.hi) (le-int_le root.lo (pos v) (omega (arith, ints)))
+    ∙ and_from (int_le root.lo (pos v)) (int_lt (pos v) root.hi) (le-int_le root.lo (pos v) (omega (arith, ints)))
     (lt-int_lt (pos v) root.hi (omega (arith, ints, high, low))) in
     ap (λ (b : Bool). b && true) here
 

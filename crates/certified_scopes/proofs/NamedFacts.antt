@@ -1,9 +1,9 @@
 -- What a scope says of words, name by name, and that neighbours which share an entry change no sum over loops.
-use Rattle.std.proofs.Common.{◌≡◌, ℕ, ◌+◌, ◌&&◌, ℤ, pos, Bool, true, false, cond, List, [], ◌∷◌, ◌++◌, length}
+use Rattle.std.proofs.Common.{◌≡◌, ℕ, ◌+◌, ℤ, pos, Bool, true, false, cond, List, [], ◌∷◌, ◌++◌, length}
 use Rattle.std.proofs.Common.{map, reverse, Option, Some, None, refl, sym, ap, ◌∙◌, arith, append_assoc, append-nil}
 use Rattle.std.specs.Prelude.{slice_get, sum_by, nat_eq}
 use Rattle.std.specs.List.{list_all}
-use Rattle.std.proofs.lemmas.Bool.{and_parts}
+use Rattle.std.proofs.lemmas.Bool.{and_from, and_parts}
 use Rattle.std.proofs.lemmas.List.{length-reverse}
 use Rattle.std.proofs.lemmas.List.Folds.{list_all-append}
 use Rattle.std.proofs.lemmas.List.Sums.{sum_by-append}
@@ -21,10 +21,6 @@ use Rattle.code_pieces.specs.Laying.{Said, said, said_fact, with_said, joins, is
 use Rattle.code_pieces.specs.Numbers.{Numbered}
 use Rattle.line_pieces.specs.Homes.{Home, facts_at, facts_from, facts_of}
 use Rattle.certified_lines.specs.Scopes.{EachNameHas}
-
-pub and_true : (a b : Bool) → a ≡ true → b ≡ true → (a && b) ≡ true
-and_true true b first second = second
-and_true false b first second = absurd (cc first)
 
 pub nothing_more : (n : ℕ) → 0 + n ≡ n
 nothing_more n = omega arith
@@ -69,7 +65,7 @@ module _ (T : RowEntry → Bool) where
       let there = facts_there (slice_get hs (length es)) e.meaning in
       ap (λ (fs : List RowEntry). list_all T fs) (facts_cons hs e es)
       ∙ list_all-append T (facts_of hs es) there
-      ∙ and_true (list_all T (facts_of hs es)) (list_all T there) (names_pass hs es each.1) each.0
+      ∙ and_from (list_all T (facts_of hs es)) (list_all T there) (names_pass hs es each.1) each.0
 
   pub passed_names : (hs : List Home) (es : List Entry) → list_all T (facts_of hs es) ≡ true
       → EachNameHas PassThere hs es

@@ -4,7 +4,7 @@ use Rattle.std.proofs.Common.{List, [], ◌∷◌, ◌++◌, length, map, Option
 use Rattle.std.proofs.Common.{ap, subst, ◌∙◌, arith, nat_lt}
 use Rattle.std.specs.Prelude.{◌+ℤ◌, slice_get, sum_by, int_le}
 use Rattle.std.specs.List.{list_all}
-use Rattle.std.proofs.lemmas.Bool.{le-ltb}
+use Rattle.std.proofs.lemmas.Bool.{and_from, le-ltb}
 use Rattle.std.proofs.lemmas.Int.{ints}
 use Rattle.std.proofs.lemmas.List.Folds.{list_all-append}
 use Rattle.std.proofs.lemmas.List.Sums.{sum_by-append}
@@ -41,34 +41,25 @@ use Rattle.line_pieces.specs.Homes.{Home, Word, Block, words_for, count_in, fact
 use Rattle.meant_lines.proofs.Housing.{get_last}
 use Rattle.certified_lines.specs.Scopes.{Scene, EachNameHas, IsNumber, loop_of, AreKnownThere}
 use Rattle.certified_lines.specs.StraightRules.{state_of}
+use Rattle.certified_lines.proofs.Operands.{same_loop, same_word}
 use Rattle.certified_scopes.specs.Kept.{at_homes}
 use Rattle.certified_scopes.specs.Rows.{IsRowOf, IsViewIn, IsEntered, RowsAreImplied, RowsAreBelow, HeadsAreEntered}
 use Rattle.certified_scopes.specs.Rows.{HeadsAreBelow}
 use Rattle.certified_scopes.specs.Settled.{IsOfIndex}
 use Rattle.certified_scopes.specs.Within.{TellsMore, LieWithin}
 use Rattle.certified_scopes.proofs.EachName.{each_before, each_then}
-use Rattle.certified_scopes.proofs.NamedFacts.{and_true, facts_there, facts_cons, names_pass, names_cost, entry_of}
+use Rattle.certified_scopes.proofs.NamedFacts.{facts_there, facts_cons, names_pass, names_cost, entry_of}
 use Rattle.certified_scopes.proofs.NamedFacts.{nothing_more, sum_cons, sums_are_said}
 use Rattle.certified_scopes.proofs.Within.{lies_long}
 
 -- ---- one word
-
-pub same_number : (z : ℤ) → is_same_number z z ≡ true
-same_number z = and_true (int_le z z) (int_le z z) (le-int_le z z (omega (arith, ints)))
-    (le-int_le z z (omega (arith, ints)))
-
-pub same_loop : (l : CountedLoop) → is_same_loop l l ≡ true
-same_loop l =
-    and_true (is_same_number l.base l.base && (l.count == l.count)) (l.weight == l.weight)
-    (and_true (is_same_number l.base l.base) (l.count == l.count) (same_number l.base) (eqb-self l.count))
-    (eqb-self l.weight)
 
 -- a number in a range is one in a range around it
 number_says : (x : WordFact) (r s : Ends) → x ≡ Alone (number_in r) → RangeWithin r s
     → says x (Alone (Number s.lo s.hi)) ≡ true
 number_says x r s is within =
     ap (λ (y : WordFact). says y (Alone (Number s.lo s.hi))) is
-    ∙ and_true (int_le s.lo r.lo) (int_le r.hi s.hi) (le-int_le s.lo r.lo within.0) (le-int_le r.hi s.hi within.1)
+    ∙ and_from (int_le s.lo r.lo) (int_le r.hi s.hi) (le-int_le s.lo r.lo within.0) (le-int_le r.hi s.hi within.1)
 
 index_says : (x : WordFact) (l m : CountedLoop) → x ≡ Index l → l ≡ m → says x (Index m) ≡ true
 index_says x l m is same =
@@ -79,7 +70,7 @@ count_says x l m is same =
     ap (λ (y : WordFact). says y (Count m)) is ∙ ap (λ (k : CountedLoop). is_same_loop k m) same ∙ same_loop m
 
 exactly : (v : ℤ) → is_exactly (number_in (constant v)) v ≡ true
-exactly v = and_true (is_same_number v v) (is_same_number v v) (same_number v) (same_number v)
+exactly v = and_from (is_same_number v v) (is_same_number v v) (same_word v) (same_word v)
 
 -- ---- tests of entries
 
@@ -144,7 +135,7 @@ module _ (g : Scene) (f : Facts) (weights : List Numbered)
     range_passes w zero r s within known = refl
     range_passes w (suc more) r s within known =
         let at : pos w +ℤ pos more ≡ pos (w + more) = omega (arith, ints) in
-        and_true (says (f (pos w +ℤ pos more)) (Alone (Number s.lo s.hi)))
+        and_from (says (f (pos w +ℤ pos more)) (Alone (Number s.lo s.hi)))
         (words_pass (told_test f) (pos w) (Number s.lo s.hi) more)
         (number_says (f (pos w +ℤ pos more)) r s (ap f at ∙ known more (omega arith)) within)
         (range_passes w more r s within (λ i less. known i (omega (arith, less))))
@@ -154,7 +145,7 @@ module _ (g : Scene) (f : Facts) (weights : List Numbered)
         → ((i : ℕ) → i < n → IsNumber f (w + i) r) → IsImplied o m
     ranges_implied w n r s o m are within known = record {
       words = ap (λ (fs : List RowEntry). list_all passes fs) are
-          ∙ and_true (words_pass (told_test f) (pos w) (Number s.lo s.hi) n) true (range_passes w n r s within known)
+          ∙ and_from (words_pass (told_test f) (pos w) (Number s.lo s.hi) n) true (range_passes w n r s within known)
           refl;
       free = ap (λ (fs : List RowEntry). sum_by costs_there fs) are;
       whole = ap (λ (fs : List RowEntry). sum_by parts_there fs) are;
@@ -176,10 +167,10 @@ module _ (g : Scene) (f : Facts) (weights : List Numbered)
         let index : f (pos w) ≡ Index l = known.0 in
         let count : f (pos w +ℤ pos 1) ≡ Count l = ap f next ∙ known.1 in
         record {
-          words = and_true (says (f (pos w +ℤ pos 1)) (Count m) && (says (f (pos w +ℤ pos 0)) (Index m) && true)) true
-              (and_true (says (f (pos w +ℤ pos 1)) (Count m)) (says (f (pos w +ℤ pos 0)) (Index m) && true)
+          words = and_from (says (f (pos w +ℤ pos 1)) (Count m) && (says (f (pos w +ℤ pos 0)) (Index m) && true)) true
+              (and_from (says (f (pos w +ℤ pos 1)) (Count m)) (says (f (pos w +ℤ pos 0)) (Index m) && true)
               (count_says (f (pos w +ℤ pos 1)) l m count (loop_same head r s same))
-              (and_true (says (f (pos w +ℤ pos 0)) (Index m)) true
+              (and_from (says (f (pos w +ℤ pos 0)) (Index m)) true
               (index_says (f (pos w +ℤ pos 0)) l m (ap f at ∙ index) (loop_same head r s same)) refl)) refl;
           free = ap (λ (x : WordFact).
               0 + cond (holds_constant x s.lo && holds_constant (f (pos w +ℤ pos 1)) (pos (count_in s)))
@@ -283,13 +274,13 @@ module _ (g : Scene) (f : Facts) (weights : List Numbered)
         let turns_are : holds_constant (f (pos w +ℤ pos 1)) turns ≡ true =
         ap (λ (x : WordFact). holds_constant x turns) count ∙ exactly turns in
         record {
-          words = and_true (says (f (pos w +ℤ pos 1)) (Count m) && (says (f (pos w +ℤ pos 0)) (Index m) && true)) true
-              (and_true (says (f (pos w +ℤ pos 1)) (Count m)) (says (f (pos w +ℤ pos 0)) (Index m) && true)
+          words = and_from (says (f (pos w +ℤ pos 1)) (Count m) && (says (f (pos w +ℤ pos 0)) (Index m) && true)) true
+              (and_from (says (f (pos w +ℤ pos 1)) (Count m)) (says (f (pos w +ℤ pos 0)) (Index m) && true)
               (ap (λ (x : WordFact). says x (Count m)) count ∙ exactly turns)
-              (and_true (says (f (pos w +ℤ pos 0)) (Index m)) true
+              (and_from (says (f (pos w +ℤ pos 0)) (Index m)) true
               (ap (λ (x : WordFact). says x (Index m)) (ap f at ∙ index) ∙ exactly s.lo) refl)) refl;
           pays = ap (λ (b : Bool). 0 + cond b (number_at head weights * (count_in s - 1)) 0)
-              (and_true (holds_constant (f (pos w)) s.lo) (holds_constant (f (pos w +ℤ pos 1)) turns) base_is turns_are)
+              (and_from (holds_constant (f (pos w)) s.lo) (holds_constant (f (pos w +ℤ pos 1)) turns) base_is turns_are)
               ∙ ap (λ (n : ℕ). 0 + n * (count_in s - 1)) (costs head)
               ∙ nothing_more (g.weights head * (count_in s - 1));
           whole = ap (λ (x : WordFact). 0 + cond (are_alike (is_alone x) (is_alone (f (pos w +ℤ pos 1)))) 0 1) index
@@ -304,7 +295,7 @@ module _ (g : Scene) (f : Facts) (weights : List Numbered)
         let d = second.whole in
         record {
           words = list_all-append passes fs gs
-              ∙ and_true (list_all passes fs) (list_all passes gs) first.words second.words;
+              ∙ and_from (list_all passes fs) (list_all passes gs) first.words second.words;
           pays = sum_by-append costs_there fs gs ∙ omega (arith, a, b);
           whole = sum_by-append parts_there fs gs ∙ omega (arith, c, d);
         }
@@ -348,10 +339,10 @@ row_met g h es v row number extra is at same met enough =
     ∙ eqb-self v.context in
     let depth : is_same_number v.depth row.depth ≡ true =
     ap (λ (z : ℤ). is_same_number v.depth z) (is.depth ∙ ap (λ (s : _). pos s.depth) same ∙ sym at.depth)
-    ∙ same_number v.depth in
+    ∙ same_word v.depth in
     let stack = anything v.stack row.stack is.stack in
     let agree : agrees v row ≡ true =
-    and_true _ _ (and_true _ _ (and_true _ _ (and_true _ _ (and_true _ _ (and_true _ _ (and_true _ _ context depth)
+    and_from _ _ (and_from _ _ (and_from _ _ (and_from _ _ (and_from _ _ (and_from _ _ (and_from _ _ context depth)
     at.settled) stack.0) stack.1) stack.2) hold) whole in
     compared_by (nat_lt number (cost v row)) (agrees v row) (cost v row)
     (le-ltb number (cost v row) (omega (arith, costs, enough))) agree

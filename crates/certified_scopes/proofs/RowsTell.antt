@@ -4,10 +4,10 @@ use Rattle.std.proofs.Common.{◌∷◌, length, Option, Some, None, refl, sym, 
 use Rattle.std.specs.Prelude.{◌+ℤ◌, ◌≤ℤ◌, slice_get, int_le, int_lt}
 use Rattle.std.specs.Ordering.{int_eq}
 use Rattle.std.specs.List.{list_all}
-use Rattle.std.proofs.lemmas.Bool.{and_parts, eqb-true, ltb-true, ltb-false}
+use Rattle.std.proofs.lemmas.Bool.{and_from, and_parts, eqb-true, ltb-true, ltb-false}
 use Rattle.std.proofs.lemmas.Bool.Decides.{Decides-int_eq}
 use Rattle.std.proofs.lemmas.Int.{ints}
-use Rattle.small_laws.proofs.Comparisons.{gt-eqb, int_le-true, le-int_le, lt-int_le, lt-int_lt, le-int_lt}
+use Rattle.small_laws.proofs.Comparisons.{gt-eqb, le-int_le, lt-int_le, lt-int_lt, le-int_lt}
 use Rattle.word_arithmetic.specs.Range.{Ends, full}
 use Rattle.module_format.specs.Rows.{Entry as RowFact}
 use Rattle.module_format.specs.Facts.{EntryKeeps, behind_entry}
@@ -31,8 +31,10 @@ use Rattle.line_pieces.specs.Homes as home
 use Rattle.line_pieces.specs.Homes.{Home, Nowhere, Word, Block, Link, Passed, words_for, count_in, facts_of}
 use Rattle.certified_lines.specs.Scopes.{Scene, EachNameHas, IsNumber, loop_of, AreKnown, AreKnownThere}
 use Rattle.certified_scopes.specs.Rows.{RowsGiveStates, RowsTell}
-use Rattle.certified_scopes.proofs.NamedFacts.{and_true, PassThere, passed_names}
-use Rattle.certified_scopes.proofs.Rows.{same_loop}
+use Rattle.rulings.proofs.Words.{same_word_by}
+use Rattle.certified_lines.proofs.Operands.{same_loop}
+use Rattle.certified_scopes.proofs.Tables.{none_of}
+use Rattle.certified_scopes.proofs.NamedFacts.{PassThere, passed_names}
 
 -- ---- what is told as something else
 
@@ -57,7 +59,7 @@ is_told_as x (Count l) = is_count_as x l
 
 told_itself : (x : WordFact) → is_told_as x x ≡ true
 told_itself (Alone (Number lo hi)) =
-    and_true (int_eq lo lo) (int_eq hi hi) ((Decides-int_eq lo lo).1 refl) ((Decides-int_eq hi hi).1 refl)
+    and_from (int_eq lo lo) (int_eq hi hi) ((Decides-int_eq lo lo).1 refl) ((Decides-int_eq hi hi).1 refl)
 told_itself (Alone Unknown) = refl
 told_itself (Alone (Pointer region lo hi step)) = refl
 told_itself (Alone (CodeAddress offset)) = refl
@@ -80,18 +82,11 @@ range_told (Alone ReturnAddress) lo hi is = absurd (cc is)
 range_told (Index l) lo hi is = absurd (cc is)
 range_told (Count l) lo hi is = absurd (cc is)
 
-one_number : (a b : ℤ) → is_same_number a b ≡ true → a ≡ b
-one_number a b is =
-    let parts = and_parts (int_le a b) (int_le b a) is in
-    let low = int_le-true a b parts.0 in
-    let high = int_le-true b a parts.1 in
-    omega (arith, ints, low, high)
-
 one_loop : (l m : CountedLoop) → is_same_loop l m ≡ true → l ≡ m
 one_loop l m is =
     let parts = and_parts (is_same_number l.base m.base && (l.count == m.count)) (l.weight == m.weight) is in
     let first = and_parts (is_same_number l.base m.base) (l.count == m.count) parts.0 in
-    let base = one_number l.base m.base first.0 in
+    let base = same_word_by l.base m.base first.0 in
     let count : l.count ≡ m.count = eqb-true l.count m.count first.1 in
     let weight : l.weight ≡ m.weight = eqb-true l.weight m.weight parts.1 in
     λ i. record { base = base i; count = count i; weight = weight i }
@@ -114,31 +109,23 @@ as_told f word fact first = is_told_as (f word) (said_of fact first)
 -- the first word of an entry is the one that is no word behind it
 first_is : (z : ℤ) (n : ℕ) → is_same_number z (z +ℤ pos n) ≡ (n == 0)
 first_is z zero =
-    and_true (int_le z (z +ℤ pos 0)) (int_le (z +ℤ pos 0) z) (le-int_le z (z +ℤ pos 0) (omega (arith, ints)))
+    and_from (int_le z (z +ℤ pos 0)) (int_le (z +ℤ pos 0) z) (le-int_le z (z +ℤ pos 0) (omega (arith, ints)))
     (le-int_le (z +ℤ pos 0) z (omega (arith, ints)))
 first_is z (suc n) =
     none_of (int_le z (z +ℤ pos (suc n))) (int_le (z +ℤ pos (suc n)) z)
     (lt-int_le (z +ℤ pos (suc n)) z (omega (arith, ints)))
     ∙ sym (gt-eqb (suc n) 0 (omega arith))
-  where
-    none_of : (a b : Bool) → b ≡ false → (a && b) ≡ false
-    none_of true b not = not
-    none_of false b not = refl
 
 -- an entry is about its words, and about none behind
 about_it : (e : RowFact) (n : ℕ) → n < e.span → is_about e (e.word +ℤ pos n) ≡ true
 about_it e n less =
-    and_true (int_le e.word (e.word +ℤ pos n)) (int_lt (e.word +ℤ pos n) (e.word +ℤ pos e.span))
+    and_from (int_le e.word (e.word +ℤ pos n)) (int_lt (e.word +ℤ pos n) (e.word +ℤ pos e.span))
     (le-int_le e.word (e.word +ℤ pos n) (omega (arith, ints)))
     (lt-int_lt (e.word +ℤ pos n) (e.word +ℤ pos e.span) (omega (arith, ints, less)))
 
 not_about : (e : RowFact) (k : ℤ) → (e.word +ℤ pos e.span) ≤ℤ k → is_about e k ≡ false
 not_about e k behind = none_of (int_le e.word k) (int_lt k (e.word +ℤ pos e.span))
     (le-int_lt k (e.word +ℤ pos e.span) behind)
-  where
-    none_of : (a b : Bool) → b ≡ false → (a && b) ≡ false
-    none_of true b not = not
-    none_of false b not = refl
 
 module _ (code_len : ℕ) (f : Facts) where
   -- the words of the first entry
@@ -153,7 +140,7 @@ module _ (code_len : ℕ) (f : Facts) where
       ∙ ap (λ (b : Bool). cond b (said_of e.fact (is_same_number e.word k)) (entry_fact es k))
       (about_it e more (omega (arith, few)))
       ∙ ap (λ (b : Bool). said_of e.fact b) (first_is e.word more) in
-      and_true (is_told_as (f k) (said_of e.fact (more == 0))) (words_pass (as_told f) e.word e.fact more)
+      and_from (is_told_as (f k) (said_of e.fact (more == 0))) (words_pass (as_told f) e.word e.fact more)
       (ap (λ (x : WordFact). is_told_as x (said_of e.fact (more == 0))) is ∙ told_itself (said_of e.fact (more == 0)))
       (entry_told e es low more apart same (omega (arith, few)))
 
@@ -163,7 +150,7 @@ module _ (code_len : ℕ) (f : Facts) where
   entries_told [] low order same = refl
   entries_told (e ∷ es) low order same =
       let apart = order.0.apart in
-      and_true (words_pass (as_told f) e.word e.fact e.span) _
+      and_from (words_pass (as_told f) e.word e.fact e.span) _
       (entry_told e es low e.span apart same (omega arith))
       (entries_told es (e.word +ℤ pos e.span) order.1 (λ k behind.
       same k (omega (arith, ints, apart, behind))

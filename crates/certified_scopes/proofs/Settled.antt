@@ -28,6 +28,7 @@ use Rattle.scalar_ranges.specs.Entries as entries
 use Rattle.scalar_ranges.specs.MoveLaws.{shape}
 use Rattle.scalar_ranges.specs.Types.{type_of_values}
 use Rattle.scalar_ranges.proofs.MoveLaws.{flat}
+use Rattle.scalar_ranges.proofs.Nesting.{long_alike}
 use Rattle.program_uses.specs.Constants.{from_one, size_in, value_as}
 use Rattle.program_uses.specs.Declaring.{add, add_all, constant_meaning, variable_meaning}
 use Rattle.program_uses.specs.Declaring.{channel_meaning, table_of, with_value, range_of_items, range_of_bytes}
@@ -52,7 +53,9 @@ use Rattle.usage_checks.specs.MainRules.{is_link_as, are_links}
 use Rattle.program_uses.specs.Declaring.{add_formals, formal_meaning}
 use Rattle.std.proofs.Common.{append_assoc, append-nil}
 use Rattle.certified_lines.specs.Telling.{IsAllowed, AreAllowed}
+use Rattle.certified_lines.proofs.Induction.{bytes_ranged}
 use Rattle.certified_lines.proofs.Operands.{allowed_first, allowed_rest}
+use Rattle.certified_lines.proofs.Ranges.{full_ranged}
 use Rattle.certified_scopes.specs.Beside.{first_word, last_end, AreInTurn}
 use Rattle.certified_scopes.specs.Kept.{at_homes}
 use Rattle.certified_scopes.specs.Within.{index_of_loop, indices_of}
@@ -63,37 +66,36 @@ use Rattle.certified_scopes.specs.Settled.{IndicesHaveTurns, LinksAreSettled, Ba
 use Rattle.certified_scopes.proofs.Alike.{alike_cases}
 use Rattle.certified_scopes.proofs.Beside.{more_words_are_in_turn}
 use Rattle.certified_scopes.proofs.EachName.{get_front, each_then, each_with}
-use Rattle.certified_scopes.proofs.Indices.{index_there, shape_there, shape_lengths}
+use Rattle.certified_scopes.proofs.Indices.{index_there, shape_there}
 
 -- ---- ranges of words
 
+-- the values of a type are words
+type_ranged : (type : ValueType) → IsRange (type_range type)
+type_ranged value_type.Int = full_ranged
+type_ranged value_type.Byte = bytes_ranged
+
 range_fits : (type : ValueType) (r : Ends) → RangeWithin r (type_range type) → r.lo ≤ℤ r.hi → IsRange r
-range_fits value_type.Int r within up =
+range_fits type r within up =
+    let all = type_ranged type in
+    let low = all.lo_fits in
+    let high = all.hi_fits in
     let a = within.0 in
     let b = within.1 in
     record {
-      lo_fits = omega (arith, ints, a, b, up);
-      hi_fits = omega (arith, ints, a, b, up);
-      ordered = up;
-    }
-range_fits value_type.Byte r within up =
-    let a = within.0 in
-    let b = within.1 in
-    record {
-      lo_fits = omega (arith, ints, a, b, up);
-      hi_fits = omega (arith, ints, a, b, up);
+      lo_fits = omega (arith, ints, low, high, a, b, up);
+      hi_fits = omega (arith, ints, low, high, a, b, up);
       ordered = up;
     }
 
 value_fits : (type : ValueType) (v : ℤ) → InRange (type_range type) v → FitsSigned w32 v
-value_fits value_type.Int v is =
+value_fits type v is =
+    let all = type_ranged type in
+    let low = all.lo_fits in
+    let high = all.hi_fits in
     let a = is.from_lo in
     let b = is.to_hi in
-    omega (arith, ints, a, b)
-value_fits value_type.Byte v is =
-    let a = is.from_lo in
-    let b = is.to_hi in
-    omega (arith, ints, a, b)
+    omega (arith, ints, low, high, a, b)
 
 -- ---- further words
 
@@ -568,7 +570,7 @@ turn_stays hs (d ∷ ds) (e ∷ es) top alike turn =
     let o : Option Home = slice_get hs (length es) in
     let same = words_stay o top d.meaning e.meaning both.0 in
     subst (λ (n : ℕ). (last_end (slice_get hs n) d.meaning ≤ top)
-    × AreInTurn hs ds (first_word (slice_get hs n) d.meaning top)) (sym (shape_lengths ds es both.1)) (
+    × AreInTurn hs ds (first_word (slice_get hs n) d.meaning top)) (sym (long_alike ds es both.1)) (
       subst (λ (n : ℕ). n ≤ top) (sym same.0) turn.0,
       subst (λ (n : ℕ). AreInTurn hs ds n) (sym same.1)
           (turn_stays hs ds es (first_word o e.meaning top) both.1 turn.1),
@@ -584,7 +586,7 @@ all_stay g top hs (d ∷ ds) (e ∷ es) alike same typed ordered housed index =
     let indices = index_there d e ds es same in
     let rest = all_stay g top hs ds es both.1 indices.1 typed.1 ordered.1 housed.1 index.1 in
     let here = subst (λ (n : ℕ). IsHousedThere g top (slice_get hs n) d.meaning × IsOfIndex (slice_get hs n) d.meaning)
-    (sym (shape_lengths ds es both.1))
+    (sym (long_alike ds es both.1))
     (housed_stays g top (slice_get hs (length es)) d.meaning e.meaning both.0 indices.0 typed.0 ordered.0 housed.0
     index.0)
     in
@@ -594,7 +596,7 @@ pub moved_scopes_are_settled : MovedScopesAreSettled
 moved_scopes_are_settled g f ds es alike same typed ordered s =
     let all = all_stay (at_homes f.homes g) s.end f.homes ds es alike same typed ordered s.scope.housed s.loops in
     record {
-      long = s.long ∙ sym (shape_lengths ds es alike);
+      long = s.long ∙ sym (long_alike ds es alike);
       end = s.end;
       under = s.under;
       scope = record { housed = all.0; few = s.scope.few };

@@ -2,6 +2,7 @@
 use Rattle.std.proofs.Common.{◌≡◌, ℕ, ◌+◌, ◌*◌, ◌<◌, ◌≤◌, ◌&&◌, ℤ, pos, Bool, true, false, cond, List, [], ◌∷◌, ◌++◌}
 use Rattle.std.proofs.Common.{length, Option, Some, refl, sym, ap, subst, ◌∙◌, arith, length-append, unwrap_or}
 use Rattle.std.proofs.Common.{option_map}
+use Rattle.std.proofs.lemmas.Bool.{and_from}
 use Rattle.std.specs.Prelude.{int_le}
 use Rattle.std.specs.List.{find}
 use Rattle.std.specs.Cmp.Rules.{signed_items}
@@ -16,7 +17,6 @@ use Rattle.code_pieces.proofs.TableLaws.{pointwise_same}
 use Rattle.placed_code.proofs.PiecesLie.{length-table}
 use Rattle.certified_scopes.specs.Laid.{TablesSayTheirRange}
 use Rattle.certified_scopes.specs.Settled.{range_of_values}
-use Rattle.certified_scopes.proofs.NamedFacts.{and_true}
 
 one_table : (xs ys : List ℤ) → are_same xs ys ≡ true → xs ≡ ys
 one_table xs ys is = (signed_items xs ys).0 (pointwise_same xs ys ∙ is)
@@ -46,7 +46,8 @@ table_inside values (t ∷ ts) there =
 
 -- ---- which row is found
 
-none_of : (a b : Bool) → b ≡ false → (a && b) ≡ false
+-- a test that fails fails with another one before it
+pub none_of : (a b : Bool) → b ≡ false → (a && b) ≡ false
 none_of true b not = not
 none_of false b not = refl
 
@@ -67,7 +68,7 @@ module _ (v : ℤ) (vs : List ℤ) (first last : ℕ) (up : first ≤ last) (ins
       record { start = start; end = start + 4 * length values; lo = lowest v vs; hi = highest v vs } in
       ap (λ (b : Bool). option_map (λ (x : TableRow). record { lo = x.lo; hi = x.hi })
       (cond b (Some row) (find (lies at) (table_rows_from (start + 4 * length values) ts))))
-      (and_true (int_le (pos start) (pos (at + 4 * first))) (int_le (pos (at + 4 * last + 4)) (pos row.end))
+      (and_from (int_le (pos start) (pos (at + 4 * first))) (int_le (pos (at + 4 * last + 4)) (pos row.end))
       (le-int_le (pos start) (pos (at + 4 * first)) (omega (arith, ints, is)))
       (le-int_le (pos (at + 4 * last + 4)) (pos row.end) (omega (arith, ints, is, inside))))
 
