@@ -1,0 +1,3 @@
+pub mod Running
+pub mod WellRuns
+pub mod SameRuns
