@@ -1,0 +1,11 @@
+pub mod TableRows
+pub mod Foundations
+pub mod Walk
+pub mod Items
+pub mod MainScope
+pub mod Mains
+pub mod Programs
+pub mod FullLines
+pub mod Texts
+pub mod FullProcesses
+pub mod FullPrograms

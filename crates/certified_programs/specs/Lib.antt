@@ -1,0 +1,4 @@
+pub mod Foundations
+pub mod Mains
+pub mod Programs
+pub mod Tables
