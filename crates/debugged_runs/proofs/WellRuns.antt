@@ -1,16 +1,18 @@
 -- A module that runs well, on the machine that checks each rule.
 use Rattle.std.proofs.Common.{◌≡◌, ◌<◌, ◌≤◌, ℕ, Bool, true, if◌then◌else◌, List, [], ◌∷◌, ◌++◌}
-use Rattle.std.proofs.Common.{Option, Some, Result, sym, ap, subst, ◌∙◌, arith, inl, inr}
+use Rattle.std.proofs.Common.{Option, Some, None, Result, refl, sym, ap, subst, ◌∙◌, arith, inl, inr}
+use Rattle.std.proofs.Common.{min, option_and_then, unwrap_or}
 use Rattle.std.proofs.lemmas.Bool.{cases_lt}
 use Rattle.std.proofs.lemmas.Grind.{not_there}
 use Rattle.std.proofs.lemmas.Option.{none-some}
 use Rattle.module_format.specs.Contents.{Contents}
+use Rattle.module_format.specs.declared.limits.TheConstants.{MAX_BUDGET}
 use Rattle.module_format.specs.declared.tables.Version.TheVariants.{Two}
 use Rattle.module_format.proofs.FileLaws.{one_contents}
 use Rattle.machine_state.specs.declared.event.Event.{Event}
 use Rattle.machine_state.specs.declared.fault.Fault.{Fault}
 use Rattle.machine_state.specs.declared.link.Link.{Link}
-use Rattle.machine_state.specs.Happens.{Turn, world_after}
+use Rattle.machine_state.specs.Happens.{Turn, most_executed, world_after}
 use Rattle.machine_state.specs.World.{World, loaded}
 use Rattle.machine_state.proofs.EventLaws.{faults_stay}
 use Rattle.machine_state.proofs.EveryWorld.{run_further}
@@ -28,11 +30,14 @@ use Rattle.machine.specs.declared.bounded.Cause.TheVariants as causes
 use Rattle.machine.specs.Bounding.{BoundedExecution, HasStopped}
 use Rattle.verifier.specs.Headline.{AreEvents, IsEvent, RunsWell, cost}
 use Rattle.command_line.specs.Words.{Text}
+use Rattle.command_line.specs.Fitting.{number_in}
 use Rattle.command_line.specs.declared.links.OnLinks.{OnLinks}
 use Rattle.tpm_actions.specs.declared.debugging.Ending.TheVariants as endings
 use Rattle.tpm_actions.specs.declared.files.FileFault.{FileFault}
+use Rattle.tpm_actions.specs.Debugging.{limit_of}
 use Rattle.tpm_actions.specs.Programs.{EndsAs, IsProgramOf, LinedModule, is_module, is_source}
 use Rattle.debugged_runs.specs.DebuggedRuns.{NeverFaults, RunsWellIfModule, TellsNoFault, IsCutBelowBudget}
+use Rattle.debugged_runs.specs.DebuggedRuns.{AsksForLess, IsCutAsAsked}
 use Rattle.debugged_runs.proofs.Running.{still_runs}
 
 -- ---- where a machine has stopped of itself
@@ -123,6 +128,18 @@ module _ {R : Type 0} (left : R → Option (List ℕ)) (m : Contents) (before af
         let below = below_budget m s.world can_happen.events well can_happen.are can_happen.world full.runs in
         omega (arith, most, below)
 
+-- ---- how many bytes may be executed
+
+-- a limit that is below what a module of the format may cost is that of the machine
+is_below : (limit budget : ℕ) → budget ≤ MAX_BUDGET → min limit most_executed < budget → limit < budget
+is_below limit budget within below = omega (arith, within, below)
+
+-- one below the budget is not the budget, so it was asked for
+is_asked : (m : Contents) (bytes : Option Text) (number : Option ℕ) → option_and_then number_in bytes ≡ number
+    → unwrap_or number m.budget < m.budget → AsksForLess m bytes
+is_asked m bytes None is below = absurd (omega (arith, below))
+is_asked m bytes (Some number) is below = record { number = number; asked = is; below = below }
+
 -- ---- what is told of a run
 
 module _ {F R W : Type 0} (opens : F → Text → Result R FileFault → F → Type 0)
@@ -158,3 +175,9 @@ module _ {F R W : Type 0} (opens : F → Text → Result R FileFault → F → T
   is_cut_below_budget m inputs outputs bytes before after lines text well debugged =
       let stops = debugged.drives.drives.1.0.drives.drives in
       stops_below_budget left m _ _ _ stops.moment stops.comes.reads debugged.machine well stops.comes.is_shown
+
+  pub is_cut_as_asked : IsCutAsAsked opens creates closes left read_failed written write_failed
+  is_cut_as_asked m inputs outputs bytes before after lines text file format well debugged =
+      let below = is_cut_below_budget m inputs outputs bytes before after lines text well debugged in
+      is_asked m bytes (option_and_then number_in bytes) refl (is_below (limit_of m bytes) m.budget
+      format.file.keeps.bounds.budget (subst (λ (n : ℕ). n < m.budget) debugged.limit below))

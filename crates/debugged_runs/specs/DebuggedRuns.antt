@@ -1,6 +1,8 @@
 -- What a run on the machine that checks each rule has in common with a run of a certified module.
-use Rattle.std.specs.Prelude.{◌≡◌, ◌<◌, ℕ, Bool, true, List, ◌++◌, Option, Result, Ok}
+use Rattle.std.specs.Prelude.{◌≡◌, ◌<◌, ℕ, Bool, true, List, ◌++◌, Option, Some, Result, Ok}
+use Rattle.std.specs.Prelude.{option_and_then}
 use Rattle.command_line.specs.Words.{Text}
+use Rattle.command_line.specs.Fitting.{number_in}
 use Rattle.command_line.specs.declared.links.OnLinks.{OnLinks}
 use Rattle.module_format.specs.Contents.{Contents}
 use Rattle.module_format.specs.Keeping.{Format}
@@ -22,6 +24,12 @@ use Rattle.tpm_actions.specs.Extents.{begins_as_module}
 use Rattle.tpm_actions.specs.FilesOnLinks.{RunsTo, RunsWithCreated}
 use Rattle.tpm_actions.specs.Programs.{EndsAs, IsProgramWith}
 use Rattle.tpm_actions.specs.Texts.{run_text}
+
+-- a number of bytes was asked for, and it is below the module's budget
+pub record AsksForLess (m : Contents) (bytes : Option Text) : Type 0 where
+  pub number : ℕ
+  pub asked : option_and_then number_in bytes ≡ Some number
+  pub below : number < m.budget
 
 module _ {F R W : Type 0} (opens : F → Text → Result R FileFault → F → Type 0)
     (creates : F → Text → Result W FileFault → F → Type 0) (closes : F → W → Bool → F → Type 0)
@@ -56,6 +64,14 @@ module _ {F R W : Type 0} (opens : F → Text → Result R FileFault → F → T
       → (debugged : HasRunTo opens creates closes left read_failed written write_failed m inputs outputs bytes before
       after lines endings.Cut text)
       → debugged.machine.limit < m.budget
+
+  -- So the module of a file is cut only where a number of bytes is asked for, and that is below its budget.
+  abbrev pub IsCutAsAsked : Type 0
+  IsCutAsAsked = (m : Contents) (inputs outputs : OnLinks (Option Text)) (bytes : Option Text) (before after : F)
+      (lines : List LineEntry) (text : Text) (file : List ℕ) → Format file m → ∥ RunsWell m ∥₁
+      → HasRunTo opens creates closes left read_failed written write_failed m inputs outputs bytes before after lines
+      endings.Cut text
+      → AsksForLess m bytes
 
   -- What was done with the files is what `run` promises of this report, and the text is what is told of such a run, and
   -- then these lines.

@@ -1,7 +1,7 @@
 //! The laws that join `debug` and `run`, each the contract of a function that does nothing.
 
 ghost use Rattle.debugged_runs.specs.DebuggedRuns.{NeverFaults, TellsNoFault, IsCutBelowBudget, OverIsRun};
-ghost use Rattle.debugged_runs.specs.DebuggedRuns.{DebugAgreesWithRun};
+ghost use Rattle.debugged_runs.specs.DebuggedRuns.{IsCutAsAsked, DebugAgreesWithRun};
 ghost use Rattle.tpm_actions.specs.FilesInOrder.{inside};
 
 use tpm_actions::Files;
@@ -21,6 +21,12 @@ pub fn sources_and_certified_modules_are_told_no_fault<F: Files>()
 /// The run of a certified module is cut only by a machine that executes fewer bytes than the module's budget says.
 pub fn certified_modules_are_cut_below_their_budget<F: Files>()
     ensures { IsCutBelowBudget F.opens F.creates F.closes (inside F.Reader.left) (inside F.Reader.failed)
+        (inside F.Writer.written) (inside F.Writer.failed) }
+{}
+
+/// So it is cut only where a number of bytes is asked for, and that is below the budget.
+pub fn certified_modules_are_cut_as_asked<F: Files>()
+    ensures { IsCutAsAsked F.opens F.creates F.closes (inside F.Reader.left) (inside F.Reader.failed)
         (inside F.Writer.written) (inside F.Writer.failed) }
 {}
 

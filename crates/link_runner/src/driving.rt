@@ -44,8 +44,9 @@ pub fn drive<M: Machine, R: LinkReader, W: LinkWriter>(
     requires writers { NoneFailed W.failed writers.old }
     requires tally { tally.old ≡ tally_at_start readers.old }
     // What was read and written is what the first-in first-out run asks for and emits, up to some moment.
-    ensures { Drives R.left R.failed W.written W.failed (M.contents machine.old) readers.old readers.new writers.old
-        writers.new result tally.new (M.shows machine.new) (M.stops machine.new) }
+    ensures drives { Drives R.left R.failed W.written W.failed (M.contents machine.old) readers.old readers.new
+        writers.old writers.new result tally.new (M.shows machine.new) (M.stops machine.new) }
+    ensures limit { M.limit machine.new ≡ M.limit machine.old }
 {
     let mut executed = machine.executed();
     while provide(machine, readers, tally)? {

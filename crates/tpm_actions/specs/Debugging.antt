@@ -6,6 +6,7 @@ use Rattle.module_format.specs.Contents.{Contents}
 use Rattle.module_format.specs.Keeping.{Format}
 use Rattle.machine_state.specs.declared.fault.Fault.{Fault}
 use Rattle.machine_state.specs.declared.link.Link.{Link}
+use Rattle.machine_state.specs.Happens.{most_executed}
 use Rattle.machine_state.specs.World.{World}
 use Rattle.link_runs.specs.ByLink.{ByLink}
 use Rattle.link_runner.specs.declared.report.Halt.{Halt}
@@ -170,6 +171,7 @@ module _ {F R W : Type 0} (opens : F → Text → Result R FileFault → F → T
   pub record HasRunTo (lines : List LineEntry) (ending : Ending) (text : Text) : Type 0 where
     pub machine : BoundedExecution
     pub tally : Tally
+    pub limit : machine.limit ≡ min (limit_of m bytes) most_executed
     pub drives : OpensAndDrives machine tally (Ok ending)
     pub tells : TellsRun m lines inputs outputs ending machine.world tally text
 

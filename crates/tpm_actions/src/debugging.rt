@@ -103,9 +103,10 @@ fn create_and_drive<'a, 'm, F: Files, O: Observer>(
     requires readers { NoneFailed (inside F.Reader.failed) readers.old }
     requires writers { writers.old ≡ None ∷ None ∷ None ∷ None ∷ [] }
     requires tally { tally.old ≡ tally_at_start readers.old }
-    ensures { CreatesAndDrives F.creates (inside F.Reader.left) (inside F.Reader.failed) (inside F.Writer.written)
-        (inside F.Writer.failed) machine.old.contents (paths_of outputs.entry) files.old files.new readers.old
-        readers.new writers.new machine.new tally.new result }
+    ensures drives { CreatesAndDrives F.creates (inside F.Reader.left) (inside F.Reader.failed)
+        (inside F.Writer.written) (inside F.Writer.failed) machine.old.contents (paths_of outputs.entry) files.old
+        files.new readers.old readers.new writers.new machine.new tally.new result }
+    ensures limit { machine.new.limit ≡ machine.old.limit }
 {
     create_all(files, outputs, writers)?;
     match drive(machine, readers, writers, tally) {
@@ -130,9 +131,10 @@ fn drive_opened<'a, 'm, F: Files, O: Observer>(
     requires loaded { Shows machine.old (loaded machine.old.contents) }
     requires readers { NoneFailed (inside F.Reader.failed) readers.old }
     requires tally { tally.old ≡ tally_at_start readers.old }
-    ensures { DrivesOpened F.creates F.closes (inside F.Reader.left) (inside F.Reader.failed)
+    ensures drives { DrivesOpened F.creates F.closes (inside F.Reader.left) (inside F.Reader.failed)
         (inside F.Writer.written) (inside F.Writer.failed) machine.old.contents (paths_of outputs.entry) files.old
         files.new readers.old machine.new tally.new result }
+    ensures limit { machine.new.limit ≡ machine.old.limit }
 {
     let mut writers = [None, None, None, None];
     let ran = create_and_drive(machine, outputs, files, readers, &mut writers, tally);

@@ -29,8 +29,8 @@ loop-machine-init g c =
       count = c.executed-executed.ensures (loaded m) c.requires.loaded;
     }
 
-pub returns-in_err-provide : goal.returns-in_err-provide
-returns-in_err-provide g c =
+pub returns-in_err-provide-clause-drives : goal.returns-in_err-provide-clause-drives
+returns-in_err-provide-clause-drives g c =
     let p = err_from_is_err_and c.from_residual.result c.from_residual.ensures.1 in
     let m = g.M.Machine.contents c.args.machine.now in
     let bound = g.M.Machine.limit c.args.machine.now in
@@ -84,8 +84,8 @@ deliver-requires g c =
     c.go_on.new.machine)) there raw in
     (search rules, ((_, emits.is_shown), driving.driven.no_write_failed))
 
-pub returns-in_err-deliver-in-Emitted : goal.returns-in_err-deliver-in-Emitted
-returns-in_err-deliver-in-Emitted g c =
+pub returns-in_err-deliver-in-Emitted-clause-drives : goal.returns-in_err-deliver-in-Emitted-clause-drives
+returns-in_err-deliver-in-Emitted-clause-drives g c =
     let e = err_from_is_err_and c.from_residual-in_err-deliver-in-Emitted.result
     c.from_residual-in_err-deliver-in-Emitted.ensures.1 in
     let message = g.M.Machine.last c.go_on.new.machine in
@@ -124,8 +124,8 @@ returns-in_err-deliver-in-Emitted g c =
     shown stopped) (c.in_ok-progress.ensures.contents ∙ there)
     (c.in_err-deliver-in-Emitted.ensures.delivers at emits.is_shown p.counts)))
 
-pub returns-in_err-progress : goal.returns-in_err-progress
-returns-in_err-progress g c =
+pub returns-in_err-progress-clause-drives : goal.returns-in_err-progress-clause-drives
+returns-in_err-progress-clause-drives g c =
     let e = err_from_is_err_and c.from_residual-in_err-progress.result
     c.from_residual-in_err-progress.ensures.1 in
     let m = g.M.Machine.contents c.args.machine.now in
@@ -293,8 +293,8 @@ loop-machine-smaller g c =
     c.executed-executed-in-loop-machine.result most advanced count (g.met.M.Machine.reached c.match-progress.machine
     advanced.moment.world advanced.is_shown).within_limit
 
-pub returns : goal.returns
-returns g c =
+pub returns-clause-drives : goal.returns-clause-drives
+returns-clause-drives g c =
     let m = g.M.Machine.contents c.args.machine.now in
     let bound = g.M.Machine.limit c.args.machine.now in
     let driving = c.loop-machine.invariant in

@@ -11,14 +11,14 @@ returns-in_err-machine-clause-runs g c =
 
 pub returns-in-Ok-clause-runs : goal.returns-in-Ok-clause-runs
 returns-in-Ok-clause-runs g c =
-    let ends = rw c.in_ok-machine.ensures.contents at c.in-Ok.ensures in
+    let ends = rw c.in_ok-machine.ensures.contents at c.in-Ok.ensures.drives in
     finishes g.R.LinkReader.left g.R.LinkReader.failed g.W.LinkWriter.written g.W.LinkWriter.failed
     c.args.verified.now c.args.readers.now c.drive.new.readers c.args.writers.now c.drive.new.writers _ _
     c.at_end.result ends (c.at_end.ensures ends.moment ends.comes.is_shown ends.comes.counts)
 
 pub returns-in-Ok-clause-known : goal.returns-in-Ok-clause-known
 returns-in-Ok-clause-known g c = λ inputs has.
-    let ends = rw c.in_ok-machine.ensures.contents at c.in-Ok.ensures in
+    let ends = rw c.in_ok-machine.ensures.contents at c.in-Ok.ensures.drives in
     knows_all g.R.LinkReader.left g.R.LinkReader.failed g.W.LinkWriter.written g.W.LinkWriter.failed
     c.args.verified.now c.args.readers.now c.drive.new.readers c.args.writers.now c.drive.new.writers inputs
     c.at_end.result has (finishes g.R.LinkReader.left g.R.LinkReader.failed g.W.LinkWriter.written

@@ -1,36 +1,38 @@
 use Rattle.tpm_actions.proofs.debugging.create_and_drive.Goals as goal
 
-pub returns-in-Ok : goal.returns-in-Ok
-returns-in-Ok g c = record {
+pub returns-in-Ok-clause-drives : goal.returns-in-Ok-clause-drives
+returns-in-Ok-clause-drives g c = record {
   writers = c.create_all.new.writers;
   creates_all = c.in_ok-create_all.ensures.gives;
-  drives = c.in-Ok.ensures;
+  drives = c.in-Ok.ensures.drives;
 }
 
-pub returns-in-Err-Stopped-Limit : goal.returns-in-Err-Stopped-Limit
-returns-in-Err-Stopped-Limit g c = record {
+pub returns-in-Err-Stopped-Limit-clause-drives : goal.returns-in-Err-Stopped-Limit-clause-drives
+returns-in-Err-Stopped-Limit-clause-drives g c = record {
   writers = c.create_all.new.writers;
   creates_all = c.in_ok-create_all.ensures.gives;
-  drives = rw (c.in-Err-Stopped-Limit.field-0-is, c.in-Err-Stopped-Limit.field-0-0-is) at c.in-Err-Stopped-Limit.ensures;
+  drives = rw (c.in-Err-Stopped-Limit.field-0-is, c.in-Err-Stopped-Limit.field-0-0-is)
+      at c.in-Err-Stopped-Limit.ensures.drives;
 }
 
-pub returns-in-Err-Stopped-Fault : goal.returns-in-Err-Stopped-Fault
-returns-in-Err-Stopped-Fault g c = record {
+pub returns-in-Err-Stopped-Fault-clause-drives : goal.returns-in-Err-Stopped-Fault-clause-drives
+returns-in-Err-Stopped-Fault-clause-drives g c = record {
   writers = c.create_all.new.writers;
   creates_all = c.in_ok-create_all.ensures.gives;
-  drives = rw (c.in-Err-Stopped-Fault.field-0-is, c.in-Err-Stopped-Fault.field-0-0-is) at c.in-Err-Stopped-Fault.ensures;
+  drives = rw (c.in-Err-Stopped-Fault.field-0-is, c.in-Err-Stopped-Fault.field-0-0-is)
+      at c.in-Err-Stopped-Fault.ensures.drives;
 }
 
-pub returns-in-Err-ReadFailed : goal.returns-in-Err-ReadFailed
-returns-in-Err-ReadFailed g c = record {
+pub returns-in-Err-ReadFailed-clause-drives : goal.returns-in-Err-ReadFailed-clause-drives
+returns-in-Err-ReadFailed-clause-drives g c = record {
   writers = c.create_all.new.writers;
   creates_all = c.in_ok-create_all.ensures.gives;
-  drives = rw c.in-Err-ReadFailed.field-0-is at c.in-Err-ReadFailed.ensures;
+  drives = rw c.in-Err-ReadFailed.field-0-is at c.in-Err-ReadFailed.ensures.drives;
 }
 
-pub returns-in-Err-WriteFailed : goal.returns-in-Err-WriteFailed
-returns-in-Err-WriteFailed g c = record {
+pub returns-in-Err-WriteFailed-clause-drives : goal.returns-in-Err-WriteFailed-clause-drives
+returns-in-Err-WriteFailed-clause-drives g c = record {
   writers = c.create_all.new.writers;
   creates_all = c.in_ok-create_all.ensures.gives;
-  drives = rw c.in-Err-WriteFailed.field-0-is at c.in-Err-WriteFailed.ensures;
+  drives = rw c.in-Err-WriteFailed.field-0-is at c.in-Err-WriteFailed.ensures.drives;
 }

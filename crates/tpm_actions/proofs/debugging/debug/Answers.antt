@@ -1,7 +1,8 @@
-use Rattle.std.proofs.Common.{Ok, Err, option_map, string_bytes, ap, sym, subst}
+use Rattle.std.proofs.Common.{ℕ, ◌∙◌, min, Ok, Err, option_map, string_bytes, ap, sym, subst}
 use Rattle.std.proofs.lemmas.Result.{err_from_is_err_and}
 use Rattle.command_line.specs.Links.{paths_of}
 use Rattle.module_format.specs.Contents.{Contents}
+use Rattle.machine_state.specs.Happens.{most_executed}
 use Rattle.machine_state.specs.World.{World}
 use Rattle.machine.specs.Asking.{Execution}
 use Rattle.machine.specs.Bounding.{BoundedExecution}
@@ -14,7 +15,8 @@ pub told-requires : goal.told-requires
 told-requires g c =
     subst (IsKnown c.in_ok-ending.ending) (sym c.checked.ensures)
     (driven_is_known g.F.Files.creates g.F.Files.closes (inside g.F.Reader.LinkReader.left)
-    (inside g.F.Reader.LinkReader.failed) (inside g.F.Writer.LinkWriter.written) (inside g.F.Writer.LinkWriter.failed) _ _ _ _ _ _ _ c.in_ok-ending.ending c.in_ok-ending.ensures)
+    (inside g.F.Reader.LinkReader.failed) (inside g.F.Writer.LinkWriter.written) (inside g.F.Writer.LinkWriter.failed)
+    _ _ _ _ _ _ _ c.in_ok-ending.ending c.in_ok-ending.ensures.drives)
 
 pub returns-in_err-ending : goal.returns-in_err-ending
 returns-in_err-ending g c =
@@ -29,7 +31,7 @@ returns-in_err-ending g c =
     (subst (λ (m : Contents). DrivesOpened g.F.Files.creates g.F.Files.closes (inside g.F.Reader.LinkReader.left)
     (inside g.F.Reader.LinkReader.failed) (inside g.F.Writer.LinkWriter.written) (inside g.F.Writer.LinkWriter.failed) m (paths_of c.args.asked.outputs) c.open_all.new.files
     c.drive_opened.new.files c.open_all.new.readers c.drive_opened.new.machine c.drive_opened.new.tally
-    (Err failure)) is c.in_err-ending.ensures))
+    (Err failure)) is c.in_err-ending.ensures.drives))
 
 pub returns : goal.returns
 returns g c =
@@ -37,6 +39,9 @@ returns g c =
     record {
       machine = c.drive_opened.new.machine;
       tally = c.drive_opened.new.tally;
+      limit = c.in_ok-ending.ensures.limit
+          ∙ (ap (λ (b : BoundedExecution). b.limit) c.in_ok-machine.ensures.value
+          ∙ ap (λ (n : ℕ). min n most_executed) c.limit.ensures);
       drives = record {
         readers = c.open_all.new.readers;
         opened = c.open_all.new.files;
@@ -44,7 +49,7 @@ returns g c =
         drives = subst (λ (m : Contents). DrivesOpened g.F.Files.creates g.F.Files.closes (inside g.F.Reader.LinkReader.left)
             (inside g.F.Reader.LinkReader.failed) (inside g.F.Writer.LinkWriter.written) (inside g.F.Writer.LinkWriter.failed) m (paths_of c.args.asked.outputs) c.open_all.new.files
             c.drive_opened.new.files c.open_all.new.readers c.drive_opened.new.machine c.drive_opened.new.tally
-            (Ok c.in_ok-ending.ending)) is c.in_ok-ending.ensures;
+            (Ok c.in_ok-ending.ending)) is c.in_ok-ending.ensures.drives;
       };
       tells = subst (λ (w : World). TellsRun c.args.module.now c.args.lines.now (paths_of c.args.asked.inputs)
           (paths_of c.args.asked.outputs) c.in_ok-ending.ending w c.drive_opened.new.tally
