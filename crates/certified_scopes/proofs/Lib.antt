@@ -6,17 +6,8 @@ pub mod Indices
 pub mod Within
 pub mod Settled
 pub mod NamedFacts
-pub mod Rows
-pub mod RowsTell
 pub mod ProcessesKeep
 pub mod TurnsWithin
-pub mod Opening
 pub mod Excluded
 pub mod ChoicesWithin
-pub mod Outside
-pub mod Laid
-pub mod RangesHeld
-pub mod Tables
-pub mod Allowed
 pub mod NamesKept
-pub mod Loops

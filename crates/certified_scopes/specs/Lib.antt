@@ -2,10 +2,4 @@ pub mod Beside
 pub mod Kept
 pub mod Within
 pub mod Settled
-pub mod Rows
 pub mod Processes
-pub mod Opening
-pub mod Outside
-pub mod Laid
-pub mod Ranges
-pub mod Loops

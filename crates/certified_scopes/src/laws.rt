@@ -7,17 +7,9 @@ ghost use Rattle.certified_scopes.specs.Settled.{BeginningsAreSettled, WordlessN
 ghost use Rattle.certified_scopes.specs.Settled.{DeclarationsAreSettled, BlocksAreSettled, MovedScopesAreSettled};
 ghost use Rattle.certified_scopes.specs.Settled.{LinksAreSettled, BareScopesAreHeld, IndicesHaveTurns};
 ghost use Rattle.certified_scopes.specs.Within.{IndicesStay, ScopesLieWithin, ExcludedIsNarrowed};
-ghost use Rattle.certified_scopes.specs.Loops.{HeadsAreSettled, TurnsAreSettled};
-ghost use Rattle.certified_scopes.specs.Opening.{LoopsAreOpened};
 ghost use Rattle.certified_scopes.specs.Processes.{IndicesAreKept, ProcessesLeaveScopesSettled, TurnsLieWithin};
-ghost use Rattle.certified_scopes.specs.Laid.{LowerWordsMayBeRead, RowsAreOfScopes, TablesSayTheirRange};
-ghost use Rattle.certified_scopes.specs.Laid.{PiecesAreAllowed, ModulesAreFounded};
-ghost use Rattle.certified_scopes.specs.Outside.{OutsideIsSettled};
 ghost use Rattle.certified_scopes.specs.Processes.{ChoicesLieWithin, ChoicesBeginFurther, NamesAreKept};
 ghost use Rattle.certified_scopes.specs.Processes.{SameNamesAreSettled};
-ghost use Rattle.certified_scopes.specs.Ranges.{VariablesHaveWords, StoredVariablesAreHeld, ConditionsNarrowScopes};
-ghost use Rattle.certified_scopes.specs.Rows.{RowsAreImplied, RowsAreBelow, HeadsAreEntered, HeadsAreBelow, RowsTell};
-ghost use Rattle.certified_scopes.specs.Rows.{RowsGiveStates};
 
 /// The words of names are in turn where homes rise, and stay so with a further word that is free. So no other name has
 /// the word of a scalar.
@@ -58,21 +50,6 @@ pub fn scopes_lie_within_others()
     ensures excluded { ExcludedIsNarrowed }
 {}
 
-/// A row is implied where a scope is held that lies within its own. Going on there costs its number, and at the head of
-/// a loop that is entered the weight of each turn but the first too.
-pub fn rows_are_implied()
-    ensures implied { RowsAreImplied }
-    ensures below { RowsAreBelow }
-    ensures entered { HeadsAreEntered }
-    ensures heads { HeadsAreBelow }
-{}
-
-/// Behind a row of a module that keeps the rules of the format, what its scope says of words is known.
-pub fn rows_tell_of_words()
-    ensures words { RowsTell }
-    ensures states { RowsGiveStates }
-{}
-
 /// A sequential process leaves the ranges of the indices around it as they are, and the scope settled, if ranges are of
 /// words. Where a turn of a loop ends, what is known lies within what is known at its head; and at the end of a choice,
 /// within what is known after all of them.
@@ -84,40 +61,4 @@ pub fn processes_leave_scopes()
     ensures further { ChoicesBeginFurther }
     ensures names { NamesAreKept }
     ensures same { SameNamesAreSettled }
-{}
-
-/// Where a loop is opened, its base and its count are known in the words of its block, and the scope is still held.
-pub fn loops_are_opened()
-    ensures { LoopsAreOpened }
-{}
-
-/// The names outside of main have no words, and are settled where main's body begins. Whatever is known of words there,
-/// its scope is held.
-pub fn outside_is_settled()
-    ensures { OutsideIsSettled }
-{}
-
-/// The rows of a laid module of one process are those of scopes, and words may be read that are before one that may be.
-/// Where rows of tables are in the order of these, each says the least and the greatest of its values. What pieces
-/// store may be written and read.
-pub fn modules_have_rows_of_scopes()
-    ensures words { LowerWordsMayBeRead }
-    ensures rows { RowsAreOfScopes }
-    ensures tables { TablesSayTheirRange }
-    ensures pieces { PiecesAreAllowed }
-    ensures founded { ModulesAreFounded }
-{}
-
-/// Where a number is stored in the word of a variable, the scope is held in which it has the range of that; and where a
-/// condition was tested, the scope that is narrowed by it.
-pub fn ranges_are_held()
-    ensures words { VariablesHaveWords }
-    ensures stored { StoredVariablesAreHeld }
-    ensures narrowed { ConditionsNarrowScopes }
-{}
-
-/// Scopes are settled at the head of a loop, where its index has a block, and in each turn of a replicated `IF`.
-pub fn turns_are_settled()
-    ensures heads { HeadsAreSettled }
-    ensures turns { TurnsAreSettled }
 {}
