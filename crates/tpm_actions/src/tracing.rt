@@ -44,7 +44,9 @@ impl<T: Write + Drop> Tracer<T> {
     }
 
     /// The same tracer, for code that comes from these lines.
-    pub fn with_lines(self, lines: &[LineEntry]) -> LinedTracer<'_, T> {
+    pub fn with_lines(self, lines: &[LineEntry]) -> LinedTracer<'_, T>
+        ensures { result ≡ record { tracer = self; lines = lines.entry } }
+    {
         LinedTracer {
             tracer: self,
             lines,
