@@ -1,7 +1,13 @@
 pub mod Faults
 pub mod RestOfPieces
+pub mod AllOfPieces
+pub mod NeedsWithin
+pub mod NamedLabels
+pub mod FewWords
 pub mod TableLaws
 pub mod PlacedLabels
+pub mod PlacedPieces
+pub mod RootWords
 pub mod RowLaws
 pub mod ModuleLaws
 pub mod ContextsNumbered

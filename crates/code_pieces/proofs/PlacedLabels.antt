@@ -142,7 +142,7 @@ items_pushed ts depth (Par par) code left placed e before =
 
 -- ---- the beginning and the end
 
-free : (n k : ℕ) (none : Option ℕ) → none ≡ None → get_or (replicate n none) k none ≡ none
+pub free : (n k : ℕ) (none : Option ℕ) → none ≡ None → get_or (replicate n none) k none ≡ none
 free n k none e = elim (cases_lt k n) [
   | inl less ↦ get_or-replicate n k none none less
   | inr past ↦ get_or_past (replicate n none) k none (omega (arith, length-replicate n none))
@@ -185,7 +185,7 @@ all_placed code n placed count done there =
     ∙ front_is code.labels n placed (omega arith) each) j
     ++ get_or-set_same code.labels n (Some (length code.items)) None (omega arith) j ∷ [])
 
-count_of : (n : ℕ) (none : Option ℕ) → length (replicate n none) ≡ n
+pub count_of : (n : ℕ) (none : Option ℕ) → length (replicate n none) ≡ n
 count_of n none = length-replicate n none
 
 -- The code is laid out: its labels were made, its pieces pushed, and the last label is placed at its end.

@@ -1,5 +1,6 @@
 -- The rows of a draft, by what they say.
-use Rattle.std.specs.Prelude.{ℕ, ℤ, pos, List, map}
+use Rattle.std.specs.Prelude.{ℕ, ◌+◌, ◌≤◌, ℤ, pos, List, map}
+use Rattle.module_format.specs.declared.limits.TheConstants.{MAX_DATA_WORDS}
 use Rattle.module_format.specs.declared.fact.Fact.{Fact}
 use Rattle.module_format.specs.declared.fact.Fact.TheVariants as facts
 use Rattle.module_format.specs.declared.rows.Entry.{Entry}
@@ -20,6 +21,10 @@ abbrev pub drafted_fact : Fact ℕ → Fact Label
 drafted_fact (facts.Number lo hi) = facts.Number lo hi
 drafted_fact (facts.Loop base count weight) = facts.Loop base count weight
 drafted_fact f = facts.Unknown
+
+-- it is said of words that a frame may have
+abbrev pub IsOfFewWords : Said → Type 0
+IsOfFewWords s = s.word + s.span ≤ MAX_DATA_WORDS
 
 abbrev pub drafted_entry : Said → Entry Label
 drafted_entry s = record { word = pos s.word; span = s.span; fact = drafted_fact s.fact }

@@ -1,5 +1,6 @@
 -- The draft that pieces are laid out as, and the module that it gives.
-use Rattle.std.specs.Prelude.{◌≡◌, ℕ, ◌+◌, false, List, [], map, Some}
+use Rattle.std.specs.Prelude.{◌≡◌, ◌≤◌, ℕ, ◌+◌, false, List, [], map, Some}
+use Rattle.module_format.specs.declared.limits.TheConstants.{MAX_DATA_WORDS}
 use Rattle.module_format.specs.declared.tables.Version.TheVariants.{Two}
 use Rattle.module_builder.specs.declared.draft.Draft.{Draft}
 use Rattle.module_builder.specs.Drafts.{Code}
@@ -52,6 +53,10 @@ pub record AreNeeded (code : Code) (ps : List Piece) (v : vectors.Needs) : Type 
   pub least : IsLeast code lengths
   pub known : IsKnown v (needs_in ps lengths)
 
+-- by the least layout of this code, no number of bytes that are executed is above the limit
+abbrev pub NeedsFit : Code → List Piece → Type 0
+NeedsFit code ps = (lengths : List ℕ) → IsLeast code lengths → NeedsAreWithin ps (sizes_of ps lengths)
+
 -- these bytes are the module of these pieces
 pub record IsModuleOf (ps : List Piece) (labels : ℕ) (links : List ℕ) (bytes : List ℕ) : Type 0 where
   pub draft : Draft
@@ -60,6 +65,7 @@ pub record IsModuleOf (ps : List Piece) (labels : ℕ) (links : List ℕ) (bytes
 
 -- no number is above a limit, where items have these lengths
 pub record AreWithinLimits (ps : List Piece) (labels : ℕ) (links : List ℕ) (lengths : List ℕ) : Type 0 where
+  pub words : BASE + words_taken ps ≤ MAX_DATA_WORDS
   pub tables : TablesAreWithin (tables_before [] ps)
   pub needs : NeedsAreWithin ps (sizes_of ps lengths)
   pub draft : (d : Draft) → IsLaid ps labels links lengths d → IsWithinLimits d lengths

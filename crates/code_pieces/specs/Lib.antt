@@ -11,5 +11,7 @@ pub mod DraftedRows
 pub mod DraftedPars
 pub mod Laid
 pub mod LaidModule
+pub mod WellFormed
+pub mod Placed
 pub mod SmallPar
 pub mod SmallAlternation

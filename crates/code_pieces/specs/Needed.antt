@@ -16,6 +16,12 @@ pub record IsKnown (v : vectors.Needs) (n : Needs) : Type 0 where
   pub ends : Tells v.ends.items n.ends
   pub weights : Tells v.weights.items n.weights
 
+-- the vectors have this number of labels
+pub record HasLabels (count : ℕ) (v : vectors.Needs) : Type 0 where
+  pub labels : length v.labels.items ≡ count
+  pub ends : length v.ends.items ≡ count
+  pub weights : length v.weights.items ≡ count
+
 -- from no piece on, where pieces have these sizes, are more bytes executed than a budget may be
 pub record NeedsAreWithin (ps : List Piece) (sizes : List ℕ) : Type 0 where
   pub each : (number : ℕ) → (needs_of (drop number ps) (drop number sizes)).need ≤ MAX_BUDGET

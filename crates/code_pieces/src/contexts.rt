@@ -2,10 +2,12 @@
 
 ghost use Rattle.std.specs.Prelude.{◌≡◌, ◌≢◌, ◌<◌, ℕ, List, length, map, nat_eq, slice_index_or, if◌then◌else◌, IfOk};
 ghost use Rattle.std.specs.Prelude.{IfErr, Err};
+ghost use Rattle.std.specs.List.{AllByRecursion};
 ghost use Rattle.code_pieces.specs.Pars.{Par};
 ghost use Rattle.code_pieces.specs.PieceViews.{branch_of, pieces_of};
 ghost use Rattle.code_pieces.specs.Contexts.{nowhere, name_among, context_name, AreNames};
 ghost use Rattle.code_pieces.specs.Laying.{pars_of};
+ghost use Rattle.code_pieces.specs.WellFormed.{IsOfOneProcess};
 
 use crate::piece::{CodeContext, ParBranch, Piece};
 use module_builder::{ContextName, GenFault};
@@ -56,6 +58,7 @@ impl ContextNames {
     pub fn of(alloc: Global, pieces: &[Piece], labels: usize) -> Result<ContextNames, GenFault>
         ensures ok { IfOk result (λ c. AreNames c (pars_of (pieces_of pieces.now))) }
         ensures limit { result ≢ Err GenFault.Limit }
+        ensures invalid { result ≡ Err GenFault.Invalid → ¬ AllByRecursion IsOfOneProcess (pieces_of pieces.now) }
     {
         let mut names = vec![in alloc; NOWHERE; labels]?;
         let mut par = 0;
@@ -76,6 +79,7 @@ impl ContextNames {
     pub fn name(&self, context: CodeContext) -> Result<ContextName, GenFault>
         ensures ok { IfOk result (λ name. (ps : List Par) → AreNames self.now ps → name ≡ context_name ps context) }
         ensures err { IfErr result (λ e. e ≡ GenFault.Invalid) }
+        ensures root { context ≡ CodeContext.Root → result ≢ Err GenFault.Invalid }
     {
         match context {
             CodeContext::Root => Ok(ContextName::Root),

@@ -1,8 +1,9 @@
 //! From pieces to the instructions of a draft.
 
-ghost use Rattle.std.specs.Prelude.{◌≡◌, ◌≢◌, ◌<◌, ◌+◌, ◌++◌, ◌∷◌, [], ℕ, List, length, replicate, slice_set};
+ghost use Rattle.std.specs.Prelude.{◌≡◌, ◌≢◌, ◌<◌, ◌≤◌, ◌+◌, ◌++◌, ◌∷◌, [], ℕ, List, length, replicate, slice_set};
 ghost use Rattle.std.specs.Prelude.{slice_index_or, pos};
-ghost use Rattle.std.specs.Prelude.{IfOk, IfErr, Err, IsTrue, None, Some, IsSome};
+ghost use Rattle.std.specs.Prelude.{IfOk, IfErr, Err, IsTrue, None, Some, IsSome, false};
+ghost use Rattle.std.specs.List.{AllByRecursion};
 ghost use Rattle.module_builder.specs.declared.item.Item.TheVariants.{Instruction};
 ghost use Rattle.module_builder.specs.Drafts.{IsMade, OfOperand};
 ghost use Rattle.code_pieces.specs.Pieces as pieces;
@@ -11,6 +12,8 @@ ghost use Rattle.code_pieces.specs.Numbers.{Numbered};
 ghost use Rattle.code_pieces.specs.Laying.{label, operand_at, operation, distance, items_in, items_of};
 ghost use Rattle.code_pieces.specs.Laying.{tables_before, draft_code};
 ghost use Rattle.code_pieces.specs.Placing.{IsPlacing, label_in};
+ghost use Rattle.code_pieces.specs.WellFormed.{labels_named, AreBelow, AreNamed, IsOfOneProcess, AreWellFormed};
+ghost use Rattle.code_pieces.specs.Placed.{IsThere, HavePlaced};
 
 use crate::operations::{ALTERNATION_END, LOOP_END, START_PROCESS};
 use crate::piece::Piece;
@@ -29,6 +32,7 @@ pub(crate) fn made(code: &Instructions, number: usize) -> Result<Label, GenFault
     ensures label { IfOk result (λ l. l ≡ label number) }
     ensures made { IfOk result (λ l. IsMade code.now l) }
     ensures err { IfErr result (λ e. e ≡ GenFault.Invalid) }
+    ensures invalid { result ≡ Err GenFault.Invalid → ¬ number < length code.now.labels }
 {
     match code.nth_label(number) {
         Some(label) => Ok(label),
@@ -52,6 +56,7 @@ fn push_jump(code: &mut Instructions, fun: Fun, to: usize) -> Result<(), GenFaul
     ensures ok { IfOk result (λ _. code.new
         ≡ record code.old { items = code.old.items ++ Instruction fun (Operand.DistanceTo (label to)) ∷ [] }) }
     ensures limit { result ≢ Err GenFault.Limit }
+    ensures invalid { result ≡ Err GenFault.Invalid → ¬ to < length code.old.labels }
 {
     let to = made(code, to)?;
     push_instruction(code, fun, Operand::DistanceTo(to))?;
@@ -72,6 +77,7 @@ fn push_distance(code: &mut Instructions, from: usize, to: usize) -> Result<(), 
     ensures ok { IfOk result (λ _. code.new
         ≡ record code.old { items = code.old.items ++ distance from to ∷ [] }) }
     ensures limit { result ≢ Err GenFault.Limit }
+    ensures invalid { result ≡ Err GenFault.Invalid → from < length code.old.labels → ¬ to < length code.old.labels }
 {
     let from = made(code, from)?;
     let to = made(code, to)?;
@@ -84,6 +90,8 @@ fn push_loop_end(code: &mut Instructions, head: usize, behind: usize) -> Result<
     ensures ok { IfOk result (λ _. code.new
         ≡ record code.old { items = code.old.items ++ items_in [] (pos 0) (pieces.LoopBack head behind) }) }
     ensures limit { result ≢ Err GenFault.Limit }
+    ensures invalid { result ≡ Err GenFault.Invalid → head < length code.old.labels
+        → ¬ behind < length code.old.labels }
 {
     push_distance(code, head, behind)?;
     push_operation(code, LOOP_END)?;
@@ -91,9 +99,11 @@ fn push_loop_end(code: &mut Instructions, head: usize, behind: usize) -> Result<
 }
 
 /// The operand of an instruction, where the workspace has this depth.
+#[tactic(auto, using(crate::proofs::RootWords::word_less_nothing))]
 fn operand_at(depth: i32, fun: Fun, operand: i32) -> Result<i32, GenFault>
     ensures ok { IfOk result (λ n. n ≡ operand_at depth fun operand) }
     ensures err { IfErr result (λ e. e ≡ GenFault.Invalid) }
+    ensures invalid { result ≡ Err GenFault.Invalid → depth ≢ pos 0 }
 {
     match fun {
         Fun::LoadLocal | Fun::StoreLocal | Fun::LoadLocalPointer => {
@@ -108,6 +118,7 @@ fn push_direct(code: &mut Instructions, depth: i32, fun: Fun, operand: i32) -> R
     ensures ok { IfOk result (λ _. code.new
         ≡ record code.old { items = code.old.items ++ items_in [] depth (pieces.Direct fun operand) }) }
     ensures limit { result ≢ Err GenFault.Limit }
+    ensures invalid { result ≡ Err GenFault.Invalid → depth ≢ pos 0 }
 {
     let operand = operand_at(depth, fun, operand)?;
     push_instruction(code, fun, Operand::Number(operand))?;
@@ -124,6 +135,8 @@ fn push_items(
     ensures ok { IfOk result (λ _. code.new
         ≡ record code.old { items = code.old.items ++ items_in tables.now depth (piece_of piece.now) }) }
     ensures limit { result ≢ Err GenFault.Limit }
+    ensures invalid { result ≡ Err GenFault.Invalid → depth ≡ pos 0
+        → ¬ AreBelow (length code.old.labels) (labels_named (piece_of piece.now)) }
 {
     match *piece {
         Piece::Direct { fun, operand } => push_direct(code, depth, fun, operand)?,
@@ -153,13 +166,15 @@ fn label_in(piece: &Piece) -> Option<usize>
 }
 
 /// Places a label, if it is not placed yet.
-#[tactic(auto, using(crate::proofs::PlacedLabels::placed_before, crate::proofs::PlacedLabels::placed_now))]
+#[tactic(auto, using(crate::proofs::PlacedPieces::labels_placed))]
 fn place(code: &mut Instructions, number: usize) -> Result<(), GenFault>
     ensures items { IfOk result (λ _. code.new.items ≡ code.old.items) }
     ensures count { IfOk result (λ _. length code.new.labels ≡ length code.old.labels) }
     ensures placing { IfOk result (λ _. (left : List pieces.Piece) (placed : List Numbered)
         → IsPlacing code.old (pieces.Place number ∷ left) placed → IsPlacing code.new left placed) }
+    ensures there { IfOk result (λ _. HavePlaced code.old (pieces.Place number ∷ []) code.new) }
     ensures err { IfErr result (λ e. e ≡ GenFault.Invalid) }
+    ensures invalid { result ≡ Err GenFault.Invalid → ¬ number < length code.old.labels }
 {
     let label = made(code, number)?;
     if code.is_placed(label) {
@@ -170,6 +185,7 @@ fn place(code: &mut Instructions, number: usize) -> Result<(), GenFault>
 }
 
 /// Appends the items of a piece, where the workspace has this depth, or places its label.
+#[tactic(auto, using(crate::proofs::PlacedPieces::piece_placed))]
 fn push_piece(
     code: &mut Instructions,
     tables: &ConstantTables,
@@ -181,7 +197,10 @@ fn push_piece(
     ensures count { IfOk result (λ _. length code.new.labels ≡ length code.old.labels) }
     ensures placing { IfOk result (λ _. (left : List pieces.Piece) (placed : List Numbered)
         → IsPlacing code.old (piece_of piece.now ∷ left) placed → IsPlacing code.new left placed) }
+    ensures there { IfOk result (λ _. HavePlaced code.old (piece_of piece.now ∷ []) code.new) }
     ensures limit { result ≢ Err GenFault.Limit }
+    ensures invalid { result ≡ Err GenFault.Invalid → depth ≡ pos 0
+        → ¬ AreBelow (length code.old.labels) (labels_named (piece_of piece.now)) }
 {
     match label_in(piece) {
         Some(label) => {
@@ -210,6 +229,7 @@ fn with_labels(alloc: Global, count: usize) -> Result<Instructions, GenFault>
 }
 
 /// Appends pieces, and places their labels.
+#[tactic(auto, using(crate::proofs::PlacedPieces::nothing_placed))]
 fn push_pieces(
     code: &mut Instructions,
     tables: &ConstantTables,
@@ -220,7 +240,10 @@ fn push_pieces(
     ensures count { IfOk result (λ _. length code.new.labels ≡ length code.old.labels) }
     ensures placing { IfOk result (λ _. (placed : List Numbered)
         → IsPlacing code.old (pieces_of pieces.now) placed → IsPlacing code.new [] placed) }
+    ensures there { IfOk result (λ _. HavePlaced code.old (pieces_of pieces.now) code.new) }
     ensures limit { result ≢ Err GenFault.Limit }
+    ensures invalid { result ≡ Err GenFault.Invalid → AllByRecursion IsOfOneProcess (pieces_of pieces.now)
+        → ¬ AreNamed (length code.old.labels) (pieces_of pieces.now) }
 {
     let mut workspace = in_root();
     for piece in pieces {
@@ -232,7 +255,8 @@ fn push_pieces(
 
 /// Whether the first `count` labels are all placed.
 fn are_placed(code: &Instructions, count: usize) -> bool
-    ensures { IsTrue result → (k : ℕ) → k < count → IsSome (slice_index_or code.now.labels k None) }
+    ensures all { IsTrue result → (k : ℕ) → k < count → IsSome (slice_index_or code.now.labels k None) }
+    ensures unless { result ≡ false → ¬ ((k : ℕ) → k < count → IsThere code.now k) }
 {
     for number in 0..count {
         match code.nth_label(number) {
@@ -249,6 +273,7 @@ fn place_end(code: &mut Instructions, labels: usize) -> Result<(), GenFault>
         ≡ record code.old { labels = slice_set code.old.labels labels (Some (length code.old.items)) }) }
     ensures made { IfOk result (λ _. labels < length code.old.labels) }
     ensures err { IfErr result (λ e. e ≡ GenFault.Invalid) }
+    ensures invalid { result ≡ Err GenFault.Invalid → labels < length code.old.labels → IsThere code.old labels }
 {
     let end = made(code, labels)?;
     if code.is_placed(end) {
@@ -274,6 +299,7 @@ pub fn draft_code(
     requires { tables.now ≡ tables_before [] (pieces_of pieces.now) }
     ensures ok { IfOk result (λ code. code ≡ draft_code (pieces_of pieces.now) labels) }
     ensures limit { result ≢ Err GenFault.Limit }
+    ensures invalid { result ≡ Err GenFault.Invalid → ¬ AreWellFormed (pieces_of pieces.now) labels }
 {
     let mut code = with_labels(alloc, labels)?;
     push_pieces(&mut code, tables, pieces)?;

@@ -1,13 +1,15 @@
 //! How many bytes are executed at most.
 
-ghost use Rattle.std.specs.Prelude.{◌≡◌, ◌≢◌, ◌<◌, ◌+◌, ◌*◌, IfOk, IfErr, Err, List, length};
+ghost use Rattle.std.specs.Prelude.{◌≡◌, ◌≢◌, ◌≤◌, ◌<◌, ◌+◌, ◌*◌, IfOk, IfErr, Err, ℕ, List, length};
+ghost use Rattle.std.specs.Option.{option_to_list};
 ghost use Rattle.module_format.specs.declared.limits.TheConstants.{MAX_BUDGET};
 ghost use Rattle.code_pieces.specs.PieceViews.{piece_of, pieces_of};
 ghost use Rattle.code_pieces.specs.Numbers.{Numbered, number_at, with_number, nothing_needed, is_stop, turns_at};
 ghost use Rattle.code_pieces.specs.Numbers.{at_head, largest_at, successor_need, start_need, needed_before, needs_of};
 ghost use Rattle.code_pieces.specs.Numbers as numbers;
-ghost use Rattle.code_pieces.specs.Pieces.{Row};
-ghost use Rattle.code_pieces.specs.Needed.{Tells, IsKnown, NeedsAreWithin};
+ghost use Rattle.code_pieces.specs.Pieces.{StartBranch, Row};
+ghost use Rattle.code_pieces.specs.Needed.{Tells, IsKnown, HasLabels, NeedsAreWithin};
+ghost use Rattle.code_pieces.specs.WellFormed.{labels_named, AreBelow, AreNamed};
 
 use crate::operations::{END_PROCESS, STOP_PROCESS};
 use crate::piece::{Piece, RowEntry, WordFact};
@@ -30,6 +32,7 @@ pub struct Needs {
 /// A sum that is a number of bytes.
 fn sum(a: u64, b: u64) -> Result<u64, GenFault>
     ensures ok { IfOk result (λ n. n ≡ a + b) }
+    ensures within { IfOk result (λ n. n ≤ MAX_BUDGET) }
     ensures err { IfErr result (λ e. (e ≡ GenFault.Limit) × (MAX_BUDGET < a + b)) }
 {
     match a.checked_add(b) {
@@ -41,6 +44,7 @@ fn sum(a: u64, b: u64) -> Result<u64, GenFault>
 /// What is executed from the head of a loop on, if `turns` turns follow the first one.
 fn with_turns(need: u64, weight: u64, turns: u64) -> Result<u64, GenFault>
     ensures ok { IfOk result (λ n. n ≡ need + weight * turns) }
+    ensures within { IfOk result (λ n. n ≤ MAX_BUDGET) }
     ensures err { IfErr result (λ e. (e ≡ GenFault.Limit) × (MAX_BUDGET < need + weight * turns)) }
 {
     match weight.checked_mul(turns) {
@@ -53,6 +57,7 @@ fn with_turns(need: u64, weight: u64, turns: u64) -> Result<u64, GenFault>
 fn number_at(numbers: &[u64], label: usize) -> Result<u64, GenFault>
     ensures ok { IfOk result (λ n. (ns : List Numbered) → Tells numbers.now ns → n ≡ number_at label ns) }
     ensures err { IfErr result (λ e. e ≡ GenFault.Invalid) }
+    ensures invalid { IfErr result (λ _. length numbers.now ≤ label) }
 {
     match numbers.get(label) {
         Some(number) => Ok(*number),
@@ -65,6 +70,7 @@ fn set_number(numbers: &mut [u64], label: usize, number: u64) -> Result<(), GenF
     ensures ok { IfOk result (λ _. (ns : List Numbered) → Tells numbers.old ns
         → Tells numbers.new (with_number label number ns)) }
     ensures err { IfErr result (λ e. e ≡ GenFault.Invalid) }
+    ensures invalid { IfErr result (λ _. length numbers.old ≤ label) }
 {
     if label >= numbers.len() {
         return Err(GenFault::Invalid);
@@ -77,6 +83,7 @@ fn set_number(numbers: &mut [u64], label: usize, number: u64) -> Result<(), GenF
 fn largest_at(numbers: &[u64], labels: &[usize]) -> Result<u64, GenFault>
     ensures ok { IfOk result (λ n. (ns : List Numbered) → Tells numbers.now ns → n ≡ largest_at labels.now ns) }
     ensures err { IfErr result (λ e. e ≡ GenFault.Invalid) }
+    ensures invalid { IfErr result (λ _. ¬ AreBelow (length numbers.now) labels.now) }
 {
     let mut largest = 0u64;
     for label in labels {
@@ -89,6 +96,7 @@ fn largest_at(numbers: &[u64], labels: &[usize]) -> Result<u64, GenFault>
 fn successor_need(numbers: &[u64], successor: Option<usize>) -> Result<u64, GenFault>
     ensures ok { IfOk result (λ n. (ns : List Numbered) → Tells numbers.now ns → n ≡ successor_need successor ns) }
     ensures err { IfErr result (λ e. e ≡ GenFault.Invalid) }
+    ensures invalid { IfErr result (λ _. ¬ AreBelow (length numbers.now) (option_to_list successor)) }
 {
     match successor {
         Some(label) => number_at(numbers, label),
@@ -124,6 +132,7 @@ impl Needs {
     /// What is known after the last piece of code with `labels` labels.
     fn nothing(alloc: Global, labels: usize) -> Result<Needs, GenFault>
         ensures ok { IfOk result (λ v. IsKnown v nothing_needed) }
+        ensures labels { IfOk result (λ v. HasLabels labels v) }
         ensures err { IfErr result (λ e. e ≡ GenFault.Memory) }
     {
         Ok(Needs {
@@ -138,8 +147,11 @@ impl Needs {
     fn enter_head(&mut self, label: usize, turns: Option<u32>) -> Result<(), GenFault>
         ensures ok { IfOk result (λ _. (n : numbers.Needs) → IsKnown self.old n
             → IsKnown self.new (at_head label turns n)) }
+        ensures within { IfOk result (λ _. self.old.need ≤ MAX_BUDGET → self.new.need ≤ MAX_BUDGET) }
+        ensures labels { IfOk result (λ _. (labels : ℕ) → HasLabels labels self.old → HasLabels labels self.new) }
         ensures limit { result ≡ Err GenFault.Limit → (n : numbers.Needs) → IsKnown self.old n
             → MAX_BUDGET < (at_head label turns n).need }
+        ensures invalid { result ≡ Err GenFault.Invalid → (labels : ℕ) → HasLabels labels self.old → labels ≤ label }
         ensures memory { result ≢ Err GenFault.Memory }
     {
         if let Some(count) = turns {
@@ -154,7 +166,10 @@ impl Needs {
     fn enter_label(&mut self, label: usize) -> Result<(), GenFault>
         ensures ok { IfOk result (λ _. (n : numbers.Needs) → IsKnown self.old n
             → IsKnown self.new (record n { labels = with_number label n.need n.labels })) }
+        ensures within { IfOk result (λ _. self.old.need ≤ MAX_BUDGET → self.new.need ≤ MAX_BUDGET) }
+        ensures labels { IfOk result (λ _. (labels : ℕ) → HasLabels labels self.old → HasLabels labels self.new) }
         ensures err { IfErr result (λ e. e ≡ GenFault.Invalid) }
+        ensures invalid { IfErr result (λ _. (labels : ℕ) → HasLabels labels self.old → labels ≤ label) }
     {
         set_number(&mut self.labels, label, self.need)
     }
@@ -163,8 +178,11 @@ impl Needs {
     fn enter_row(&mut self, label: usize, entries: &[RowEntry]) -> Result<(), GenFault>
         ensures ok { IfOk result (λ _. (n : numbers.Needs) → IsKnown self.old n
             → IsKnown self.new (needed_before (Row label entries.now) 0 n)) }
+        ensures within { IfOk result (λ _. self.old.need ≤ MAX_BUDGET → self.new.need ≤ MAX_BUDGET) }
+        ensures labels { IfOk result (λ _. (labels : ℕ) → HasLabels labels self.old → HasLabels labels self.new) }
         ensures limit { result ≡ Err GenFault.Limit → (n : numbers.Needs) → IsKnown self.old n
             → MAX_BUDGET < (needed_before (Row label entries.now) 0 n).need }
+        ensures invalid { result ≡ Err GenFault.Invalid → (labels : ℕ) → HasLabels labels self.old → labels ≤ label }
         ensures memory { result ≢ Err GenFault.Memory }
     {
         self.enter_label(label)?;
@@ -178,6 +196,8 @@ impl Needs {
             → number ≡ start_need entry successor n) }
         ensures limit { result ≡ Err GenFault.Limit → (n : numbers.Needs) → IsKnown self.now n
             → MAX_BUDGET < start_need entry successor n }
+        ensures invalid { result ≡ Err GenFault.Invalid → (labels : ℕ) → HasLabels labels self.now
+            → ¬ AreBelow labels (labels_named (StartBranch entry successor)) }
         ensures memory { result ≢ Err GenFault.Memory }
     {
         let branch = number_at(&self.labels, entry)?;
@@ -189,8 +209,12 @@ impl Needs {
     fn enter(&mut self, piece: &Piece, size: u32) -> Result<(), GenFault>
         ensures ok { IfOk result (λ _. (n : numbers.Needs) → IsKnown self.old n
             → IsKnown self.new (needed_before (piece_of piece.now) size n)) }
+        ensures within { IfOk result (λ _. self.old.need ≤ MAX_BUDGET → self.new.need ≤ MAX_BUDGET) }
+        ensures labels { IfOk result (λ _. (labels : ℕ) → HasLabels labels self.old → HasLabels labels self.new) }
         ensures limit { result ≡ Err GenFault.Limit → (n : numbers.Needs) → IsKnown self.old n
             → MAX_BUDGET < (needed_before (piece_of piece.now) size n).need }
+        ensures invalid { result ≡ Err GenFault.Invalid → (labels : ℕ) → HasLabels labels self.old
+            → ¬ AreBelow labels (labels_named (piece_of piece.now)) }
         ensures memory { result ≢ Err GenFault.Memory }
     {
         let size = u64::from(size);
@@ -223,6 +247,7 @@ impl Needs {
     ///
     /// `Limit` if from some piece on more bytes are executed than a budget may be, `Invalid` if a piece names a label
     /// that is not there, `Memory` if memory runs out.
+    #[tactic(auto, using(crate::proofs::NeedsWithin::none_within, crate::proofs::NeedsWithin::all_within))]
     pub fn of(
         alloc: Global,
         pieces: &[Piece],
@@ -231,7 +256,10 @@ impl Needs {
     ) -> Result<Needs, GenFault>
         requires { length sizes.now ≡ length pieces.now }
         ensures ok { IfOk result (λ v. IsKnown v (needs_of (pieces_of pieces.now) sizes.now)) }
+        ensures within { IfOk result (λ _. NeedsAreWithin (pieces_of pieces.now) sizes.now) }
+        ensures labels { IfOk result (λ v. HasLabels labels v) }
         ensures limit { result ≡ Err GenFault.Limit → ¬ NeedsAreWithin (pieces_of pieces.now) sizes.now }
+        ensures invalid { result ≡ Err GenFault.Invalid → ¬ AreNamed labels (pieces_of pieces.now) }
     {
         let mut needs = Needs::nothing(alloc, labels)?;
         for number in (0..pieces.len()).rev() {
@@ -256,6 +284,7 @@ impl Needs {
         ensures ok { IfOk result (λ number. (n : numbers.Needs) → IsKnown self.now n
             → number ≡ number_at label n.labels) }
         ensures err { IfErr result (λ e. e ≡ GenFault.Invalid) }
+        ensures invalid { IfErr result (λ _. (labels : ℕ) → HasLabels labels self.now → labels ≤ label) }
     {
         number_at(&self.labels, label)
     }
@@ -269,6 +298,7 @@ impl Needs {
         ensures ok { IfOk result (λ number. (n : numbers.Needs) → IsKnown self.now n
             → number ≡ number_at head n.weights) }
         ensures err { IfErr result (λ e. e ≡ GenFault.Invalid) }
+        ensures invalid { IfErr result (λ _. (labels : ℕ) → HasLabels labels self.now → labels ≤ head) }
     {
         number_at(&self.weights, head)
     }

@@ -1,6 +1,7 @@
 //! The PAR rows of a draft.
 
 ghost use Rattle.std.specs.Prelude.{◌≡◌, ◌≢◌, ℕ, List, map, Option, IfOk, Err};
+ghost use Rattle.std.specs.List.{AllByRecursion};
 ghost use Rattle.module_builder.specs.declared.draft.ContextName as name;
 ghost use Rattle.module_builder.specs.Placing.{placed_branch, placed_par};
 ghost use Rattle.code_pieces.specs.Pars as pars;
@@ -8,6 +9,7 @@ ghost use Rattle.code_pieces.specs.PieceViews.{branch_of, par_of, pieces_of};
 ghost use Rattle.code_pieces.specs.Contexts.{context_name, AreNames};
 ghost use Rattle.code_pieces.specs.Laying.{pars_of};
 ghost use Rattle.code_pieces.specs.DraftedPars.{laid_branch, laid_par, AreRows};
+ghost use Rattle.code_pieces.specs.WellFormed.{IsOfOneProcess};
 
 use crate::contexts::ContextNames;
 use crate::drafting::made;
@@ -91,6 +93,7 @@ pub fn par_rows(
     ensures ok { IfOk result (λ v. (all : List pars.Par) → AreNames contexts.now all
         → AreRows all (pars_of (pieces_of pieces.now)) v.items) }
     ensures limit { result ≢ Err GenFault.Limit }
+    ensures invalid { result ≡ Err GenFault.Invalid → ¬ AllByRecursion IsOfOneProcess (pieces_of pieces.now) }
 {
     let mut rows = Vec::new(alloc);
     for piece in pieces {

@@ -1,14 +1,20 @@
 //! What rows say, with numbers.
 
-ghost use Rattle.std.specs.Prelude.{◌≡◌, ◌≢◌, List, map, reverse, IfOk, IfErr, Err, ◌+◌};
+ghost use Rattle.std.specs.Prelude.{◌≡◌, ◌≢◌, ◌≤◌, ◌<◌, ◌+◌, ℕ, List, length, map, reverse, IfOk, IfErr, Err};
+ghost use Rattle.std.specs.List.{AllByRecursion};
+ghost use Rattle.module_format.specs.declared.limits.TheConstants.{MAX_DATA_WORDS};
+ghost use Rattle.code_pieces.specs.declared.piece.CodeContext.TheVariants.{Root};
 ghost use Rattle.code_pieces.specs.Pars.{Par};
 ghost use Rattle.code_pieces.specs.PieceViews.{pieces_of};
 ghost use Rattle.code_pieces.specs.Contexts.{AreNames};
 ghost use Rattle.code_pieces.specs.Numbers as numbers;
-ghost use Rattle.code_pieces.specs.Needed.{IsKnown};
+ghost use Rattle.code_pieces.specs.Needed.{IsKnown, HasLabels};
 ghost use Rattle.code_pieces.specs.Laying.{said_fact, is_same_range, joins, with_said, said, said_rows};
 ghost use Rattle.code_pieces.specs.DraftedRows.{drafted_fact, drafted_entry, shown_row, row_with};
-ghost use Rattle.code_pieces.specs.DraftedRows.{drafted_row, said_row};
+ghost use Rattle.code_pieces.specs.DraftedRows.{drafted_row, said_row, IsOfFewWords};
+ghost use Rattle.code_pieces.specs.Pieces.{Row};
+ghost use Rattle.code_pieces.specs.WellFormed.{heads_of, heads_said, labels_named, AreBelow, AreNamed};
+ghost use Rattle.code_pieces.specs.WellFormed.{HaveFewWords, IsOfOneProcess};
 
 use crate::contexts::ContextNames;
 use crate::drafting::made;
@@ -31,6 +37,8 @@ pub struct Said {
 fn said_fact(needs: &Needs, fact: WordFact) -> Result<Fact, GenFault>
     ensures ok { IfOk result (λ f. (n : numbers.Needs) → IsKnown needs.now n → f ≡ said_fact n.weights fact) }
     ensures limit { result ≢ Err GenFault.Limit }
+    ensures invalid { result ≡ Err GenFault.Invalid → (labels : ℕ) → HasLabels labels needs.now
+        → ¬ AreBelow labels (heads_of fact) }
 {
     match fact {
         WordFact::Between { lo, hi } => Ok(Fact::Number { lo, hi }),
@@ -68,6 +76,7 @@ fn joined(said: &Said, next: &Said) -> Result<Said, GenFault>
     ensures ok { IfOk result (λ s. s
         ≡ record { word = said.now.word; span = said.now.span + next.now.span; fact = said.now.fact }) }
     ensures err { IfErr result (λ e. e ≡ GenFault.Invalid) }
+    ensures invalid { IfErr result (λ _. MAX_DATA_WORDS < said.now.span + next.now.span) }
 {
     match said.span.checked_add(next.span) {
         Some(span) => Ok(Said {
@@ -84,6 +93,8 @@ fn joined(said: &Said, next: &Said) -> Result<Said, GenFault>
 fn push_before(words: &mut Vec<Said>, said: Said) -> Result<(), GenFault>
     ensures ok { IfOk result (λ _. reverse words.new.items ≡ with_said said (reverse words.old.items)) }
     ensures limit { result ≢ Err GenFault.Limit }
+    ensures invalid { result ≡ Err GenFault.Invalid → IsOfFewWords said
+        → ¬ AllByRecursion IsOfFewWords (reverse words.old.items) }
 {
     let Some(next) = words.pop() else {
         words.push(said)?;
@@ -102,7 +113,10 @@ fn push_before(words: &mut Vec<Said>, said: Said) -> Result<(), GenFault>
 fn said_of(needs: &Needs, entry: &RowEntry) -> Result<Said, GenFault>
     ensures ok { IfOk result (λ s. (n : numbers.Needs) → IsKnown needs.now n
         → s ≡ record { word = entry.now.word; span = entry.now.span; fact = said_fact n.weights entry.now.fact }) }
+    ensures words { IfOk result (λ s. (s.word ≡ entry.now.word) × (s.span ≡ entry.now.span)) }
     ensures limit { result ≢ Err GenFault.Limit }
+    ensures invalid { result ≡ Err GenFault.Invalid → (labels : ℕ) → HasLabels labels needs.now
+        → ¬ AreBelow labels (heads_of entry.now.fact) }
 {
     Ok(Said {
         word: entry.word,
@@ -112,10 +126,14 @@ fn said_of(needs: &Needs, entry: &RowEntry) -> Result<Said, GenFault>
 }
 
 /// What a row says, with neighbours of one range joined.
+#[tactic(auto, using(crate::proofs::FewWords::few_with_said, crate::proofs::FewWords::few_at))]
 fn said_words(alloc: Global, needs: &Needs, entries: &[RowEntry]) -> Result<Vec<Said>, GenFault>
     ensures ok { IfOk result (λ v. (n : numbers.Needs) → IsKnown needs.now n
         → v.items ≡ said n.weights entries.now) }
+    ensures few { IfOk result (λ v. HaveFewWords (Row 0 entries.now) → AllByRecursion IsOfFewWords v.items) }
     ensures limit { result ≢ Err GenFault.Limit }
+    ensures invalid { result ≡ Err GenFault.Invalid → (labels : ℕ) → HasLabels labels needs.now
+        → AreBelow labels (heads_said entries.now) → ¬ HaveFewWords (Row 0 entries.now) }
 {
     let mut words = Vec::with_capacity(alloc, entries.len())?;
     for number in (0..entries.len()).rev() {
@@ -149,6 +167,7 @@ fn drafted_fact(fact: Fact) -> Fact<Label>
 fn drafted_entry(said: &Said) -> Result<Entry<Label>, GenFault>
     ensures ok { IfOk result (λ e. e ≡ drafted_entry said.now) }
     ensures err { IfErr result (λ e. e ≡ GenFault.Invalid) }
+    ensures invalid { IfErr result (λ _. ¬ IsOfFewWords said.now) }
 {
     match i32::try_from(said.word) {
         Ok(word) => Ok(Entry {
@@ -164,6 +183,7 @@ fn drafted_entry(said: &Said) -> Result<Entry<Label>, GenFault>
 fn drafted_entries(alloc: Global, said: &[Said]) -> Result<Vec<Entry<Label>>, GenFault>
     ensures ok { IfOk result (λ v. v.items ≡ map drafted_entry said.now) }
     ensures limit { result ≢ Err GenFault.Limit }
+    ensures invalid { result ≡ Err GenFault.Invalid → ¬ AllByRecursion IsOfFewWords said.now }
 {
     let mut entries = Vec::with_capacity(alloc, said.len())?;
     for words in said {
@@ -209,6 +229,9 @@ fn row_at(
     ensures ok { IfOk result (λ row. (ps : List Par) (n : numbers.Needs) → AreNames contexts.now ps
         → IsKnown needs.now n → shown_row row ≡ drafted_row ps (said_row workspace n label entries.now)) }
     ensures limit { result ≢ Err GenFault.Limit }
+    ensures invalid { result ≡ Err GenFault.Invalid → (labels : ℕ) → HasLabels labels needs.now
+        → labels ≤ length code.now.labels → workspace.context ≡ Root
+        → AreBelow labels (labels_named (Row label entries.now)) → ¬ HaveFewWords (Row label entries.now) }
 {
     let context = contexts.name(workspace.context)?;
     let number = needs.at_label(label)?;
@@ -224,6 +247,7 @@ fn row_at(
 ///
 /// `Invalid` if a row or the branch that it is in has a label that is not there, or it names words that no frame has;
 /// `Memory` if memory runs out.
+#[tactic(auto, using(crate::proofs::NamedLabels::still_there))]
 pub fn rows_of(
     alloc: Global,
     code: &Instructions,
@@ -235,6 +259,10 @@ pub fn rows_of(
         → IsKnown needs.now n
         → map shown_row v.items ≡ map (drafted_row ps) (said_rows n (pieces_of pieces.now))) }
     ensures limit { result ≢ Err GenFault.Limit }
+    ensures invalid { result ≡ Err GenFault.Invalid → (labels : ℕ) → HasLabels labels needs.now
+        → labels ≤ length code.now.labels → AreNamed labels (pieces_of pieces.now)
+        → AllByRecursion IsOfOneProcess (pieces_of pieces.now) → AllByRecursion HaveFewWords (pieces_of pieces.now)
+        → ⊥ }
 {
     let mut rows = Vec::new(alloc);
     let mut workspace = in_root();

@@ -1,6 +1,6 @@
 //! The tables that code reads, as the constants of a module.
 
-ghost use Rattle.std.specs.Prelude.{◌≡◌, ◌≤◌, ◌+◌, ◌*◌, ◌++◌, ◌∷◌, ◌↔◌, [], length, IfOk, IfErr, Err, IsTrue};
+ghost use Rattle.std.specs.Prelude.{◌≡◌, ◌≢◌, ◌≤◌, ◌+◌, ◌*◌, ◌++◌, ◌∷◌, ◌↔◌, [], length, IfOk, IfErr, Err, IsTrue};
 ghost use Rattle.module_format.specs.declared.limits.TheConstants.{MAX_CONSTANTS};
 ghost use Rattle.code_pieces.specs.PieceViews.{pieces_of};
 ghost use Rattle.code_pieces.specs.Laying.{are_same, offset_in, with_table, tables_before};
@@ -161,6 +161,7 @@ impl<'a> ConstantTables<'a> {
     fn add(&mut self, values: &'a [i32]) -> Result<(), GenFault>
         ensures ok { IfOk result (λ _. self.new ≡ with_table values.now self.old) }
         ensures limit { result ≡ Err GenFault.Limit → ¬ TablesAreWithin (with_table values.now self.old) }
+        ensures faults { result ≢ Err GenFault.Invalid }
     {
         if self.has_table(values) {
             return Ok(());
@@ -181,6 +182,7 @@ impl<'a> ConstantTables<'a> {
     pub fn of(alloc: Global, pieces: &'a [Piece]) -> Result<ConstantTables<'a>, GenFault>
         ensures ok { IfOk result (λ t. t ≡ tables_before [] (pieces_of pieces.now)) }
         ensures limit { result ≡ Err GenFault.Limit → ¬ TablesAreWithin (tables_before [] (pieces_of pieces.now)) }
+        ensures faults { result ≢ Err GenFault.Invalid }
     {
         let mut tables = ConstantTables {
             tables: Vec::new(alloc),

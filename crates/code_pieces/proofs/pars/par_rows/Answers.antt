@@ -1,15 +1,19 @@
-use Rattle.std.proofs.Common.{◌≡◌, ◌+◌, [], ◌∷◌, ◌++◌, ◌∙◌, List, drop, map, refl, sym, ap, append_assoc, arith}
+use Rattle.std.proofs.Common.{◌≡◌, ◌+◌, [], ◌∷◌, ◌++◌, ◌∙◌, List, drop, map, refl, sym, subst, ap, append_assoc, arith}
 use Rattle.std.proofs.Common.{Vec, Global}
 use Rattle.std.proofs.lemmas.List.{map-append}
 use Rattle.module_format.specs.declared.rows.ParRow.{ParRow}
 use Rattle.module_builder.specs.declared.item.Label.{Label}
 use Rattle.module_builder.specs.declared.draft.ContextName.{ContextName}
 use Rattle.module_builder.specs.Placing.{placed_par}
+use Rattle.code_pieces.specs.declared.piece.Par.{Par}
 use Rattle.code_pieces.specs.declared.piece.Piece as code_piece
+use Rattle.code_pieces.specs.declared.piece.Piece.TheVariants as pieces
 use Rattle.code_pieces.specs.PieceViews.{par_of, piece_of, pieces_of}
 use Rattle.code_pieces.specs.Contexts.{context_name}
 use Rattle.code_pieces.specs.Laying.{pars_of}
 use Rattle.code_pieces.specs.DraftedPars.{laid_par}
+use Rattle.code_pieces.specs.WellFormed.{IsOfOneProcess}
+use Rattle.code_pieces.proofs.NamedLabels.{piece_at}
 use Rattle.code_pieces.proofs.RestOfPieces.{at_first}
 use Rattle.code_pieces.proofs.pars.par_rows.Goals as goal
 use Rattle.code_pieces.proofs.pars.par_rows.Goals.{in-Par+in_ok-par_row+in_ok-push, in_default}
@@ -50,3 +54,13 @@ loop-piece-preserved c = λ all number offsets named.
           (λ j. map placed (w.rows-is j).items ++ map laid (sym none j))
           ∙ whole c.piece-item.result refl
     ]
+
+-- a piece that is a PAR is not of one process
+no_par : (p : code_piece.Piece) (par : Par) → p ≡ pieces.Par par → IsOfOneProcess (piece_of p) → ⊥
+no_par p par is alone = subst (λ (q : code_piece.Piece). IsOfOneProcess (piece_of q)) is alone
+
+pub returns-in_err-par_row-clause-invalid : goal.returns-in_err-par_row-clause-invalid
+returns-in_err-par_row-clause-invalid c = λ e alone.
+    no_par c.piece-item.result c.in-Par.par c.in-Par.is
+    (piece_at IsOfOneProcess c.args.pieces.now c.loop-piece.piece-index c.piece-item.result (omega arith)
+    c.piece-item.is alone)
