@@ -349,6 +349,18 @@ signed_before before p all rest x signed is =
     ∙ weighed_signatures item o
     ∙ ap (λ (o : Outside). o.signatures) (sym (outside_of before (globals_of [])))
 
+-- a program whose last item is a procedure has a signature
+pub some_signed : (before : List ProgramItem) (p : Procedure) (all : List Signature)
+    → signatures_of all ≡ (after_items (before ++ GlobalProcedure p ∷ [])).signatures → all ≡ [] → ⊥
+some_signed before p all signed none =
+    let item = GlobalProcedure p in
+    let w = weighed item (in_turn after_item before item_rules.outermost) in
+    let more = signature_of (around_in w) p w.known ∷ [] in
+    let split : [] ≡ w.signatures ++ more =
+    sym (ap signatures_of none) ∙ signed
+    ∙ ap (λ (o : Outside). o.signatures) (last_in_turn after_item before item item_rules.outermost) in
+    absurd (omega (arith, ap length split, length-append w.signatures more))
+
 -- The code of main after the items before it is that of the program.
 main_code_is : (before : List ProgramItem) (p : Procedure) (s : Start) (around : calling.Surroundings)
     → BreaksNoRule (before ++ GlobalProcedure p ∷ []) → Precedes s before
@@ -414,6 +426,15 @@ much_code : (l : Limits) (code : Option Code) → l.is_sequential ≡ true → E
 much_code l None sequential h = tt
 much_code l (Some c) sequential h = h sequential
 
+-- What bounds the code of a sequential program is what bounds sequential ones.
+pub sequential_limits : (l : Limits) (items before : List ProgramItem) (main : Procedure)
+    → items ≡ before ++ GlobalProcedure main ∷ [] → l.is_sequential ≡ is_sequential main.body
+    → IsSequentialProgram items → l.is_sequential ≡ true
+sequential_limits l items before main is tested sequential =
+    let found = main_tested items sequential in
+    let same : found.0 ≡ main = cc (found.1, ap main_of is, last_is_main before main) in
+    tested ∙ ap (λ (q : Procedure). is_sequential q.body) (sym same) ∙ found.2
+
 -- If the code of main is too much, so is that of the program.
 pub program_exceeds : (all before : List Item) (p : code_proc.Proc) (s : Start) (around : calling.Surroundings)
     → Begins all before p s around → around.limits.names ≡ capped (names_in (map item_of all))
@@ -423,10 +444,6 @@ pub program_exceeds : (all before : List Item) (p : code_proc.Proc) (s : Start) 
 program_exceeds all before p s around x names tested sequential h =
     let main = procedure_of p in
     let code = main_code (surroundings_of around) main (site_of s.writer) in
-    let found = main_tested (map item_of all) sequential in
-    let same : found.0 ≡ main =
-    cc (found.1, ap main_of x.items, last_is_main (map item_of before) main) in
-    let yes : around.limits.is_sequential ≡ true = tested ∙ ap (λ (q : Procedure). is_sequential q.body) (sym same)
-    ∙ found.2 in
+    let yes = sequential_limits around.limits (map item_of all) (map item_of before) main x.items tested sequential in
     subst (λ (y : ℕ × Option Code). IsMuchCode y.0 y.1) (λ i. (names i, (sym x.code ∙ ap code_of (sym x.items)) i))
     (much_code around.limits code yes (subst (λ old. Exceeds around.limits old code) x.precedes.listing h))

@@ -12,6 +12,7 @@ pub mod LoopsWritten
 pub mod NamesCleared
 pub mod OutermostNames
 pub mod PartsExceed
+pub mod PartsSequential
 pub mod PartsWritten
 pub mod SequentialCode
 pub mod SkipsSeen

@@ -204,6 +204,12 @@ LeavesSkip if_ending.Stops = ⊤
 LeavesSkip (if_ending.Always last) = ⊤
 LeavesSkip (if_ending.Opens opened last) = is_skip (process_of last.now.process) ≡ true
 
+-- the choices of an ending
+abbrev pub choices_in : code_ending.IfEnding → List Choice
+choices_in if_ending.Stops = []
+choices_in (if_ending.Always last) = last.now ∷ []
+choices_in (if_ending.Opens opened last) = opened.now ∷ last.now ∷ []
+
 -- The choices of an IF are these, which are tested, with this ending.
 pub record AreEnded (cs : Components Choices) (tested : List Choice) (ending : code_ending.IfEnding) : Type 0 where
   pub choices : (w : Surroundings) (k : Known) → if_choices w cs k ≡ record {

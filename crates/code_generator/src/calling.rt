@@ -1,6 +1,6 @@
 //! Which procedures may be called at a place.
 
-ghost use Rattle.std.specs.Prelude.{◌≡◌, ◌+◌, ◌≤◌, IfOk, IfSome, Some, Err, false, option_map, slice_get};
+ghost use Rattle.std.specs.Prelude.{◌≡◌, ◌≢◌, ◌+◌, ◌≤◌, IfOk, IfSome, Some, Err, false, option_map, slice_get};
 ghost use Rattle.scalar_ranges.specs.Entries.{Procedure};
 ghost use Rattle.scalar_ranges.specs.Scopes.{meaning_of};
 ghost use Rattle.program_uses.specs.ActionViews.{around_of};
@@ -83,6 +83,7 @@ impl<'s, 'a> Surroundings<'s, 'a> {
         ensures deeper { IfOk result (λ inner. inner.deeper + 1 ≡ self.entry.deeper) }
         ensures limits { IfOk result (λ inner. inner.limits ≡ self.entry.limits) }
         ensures limit { result ≡ Err GenFault.Limit → self.entry.limits.is_sequential ≡ false }
+        ensures invalid { result ≢ Err GenFault.Invalid }
     {
         if self.deeper == 0 {
             return Err(self.limits.too_deep());

@@ -1,18 +1,21 @@
 //! Writing the choices of an `IF`. If a function fails, some pieces more may have come.
 
-ghost use Rattle.std.specs.Prelude.{◌≡◌, IfOk, Err};
+ghost use Rattle.std.specs.Prelude.{◌≡◌, ◌++◌, IfOk, Err, false};
+ghost use Rattle.occam_layout.specs.declared.mark.Mark.TheVariants as mark;
+ghost use Rattle.occam_parser.specs.Terminals.{Mark};
 ghost use Rattle.occam_parser.specs.Expressions.{Alone};
 ghost use Rattle.occam_parser.specs.Views.{expression_of, term_of};
 ghost use Rattle.occam_parser.specs.LineViews.{action_of, replicator_of};
 ghost use Rattle.occam_parser.specs.BlockViews.{process_of, construct_of, choice_of, all_processes, all_choices};
 ghost use Rattle.program_uses.specs.Indices.{seen_repeats};
+ghost use Rattle.program_meaning.specs.Sequential.{AreSequential, IsSequentialComponent};
 ghost use Rattle.code_generator.specs.CallViews.{surroundings_of};
 ghost use Rattle.code_generator.specs.Processes.{is_true, is_skip_action, is_skip, does_nothing, all_do_nothing};
 ghost use Rattle.code_generator.specs.Processes.{times, under_if};
 ghost use Rattle.code_generator.specs.Processes.{taken_code, tested_code, open_code, construct_code};
-ghost use Rattle.code_generator.specs.Written.{site_of, Exceeds, AreEnded, choice_as, WritesAs, ending_at, WritesEnding};
-ghost use Rattle.code_generator.specs.Written.{choices_at, WritesChoices, if_at, WritesIf, turns_tested, turns_at};
-ghost use Rattle.code_generator.specs.Written.{WritesTurns, WritesConstruct};
+ghost use Rattle.code_generator.specs.Written.{site_of, Exceeds, AreEnded, choices_in, choice_as, WritesAs, ending_at};
+ghost use Rattle.code_generator.specs.Written.{WritesEnding, choices_at, WritesChoices, if_at, WritesIf};
+ghost use Rattle.code_generator.specs.Written.{turns_tested, turns_at, WritesTurns, WritesConstruct};
 
 use crate::calling::Surroundings;
 use crate::processes::ProcessWriter;
@@ -149,7 +152,8 @@ fn turns_tested(count: u32, condition: &Expr) -> u32
 impl<'t, 'a> EndedChoices<'t, 'a> {
     /// These choices, as they end.
     fn of(choices: &'t [Choice<'a>]) -> EndedChoices<'t, 'a>
-        ensures { AreEnded (all_choices choices.now) result.tested.now result.ending }
+        ensures ended { AreEnded (all_choices choices.now) result.tested.now result.ending }
+        ensures whole { choices.now ≡ result.tested.now ++ choices_in result.ending }
     {
         let stopping = EndedChoices {
             tested: choices,
@@ -189,6 +193,8 @@ impl<'a> ProcessWriter<'a> {
         ensures ok { IfOk result (λ _. WritesIf self.old self.new around.entry (all_choices choices.now)) }
         ensures limit { result ≡ Err GenFault.Limit → Exceeds around.entry.limits self.old.listing
             (if_at (surroundings_of around.entry) (all_choices choices.now) (site_of self.old)) }
+        ensures invalid { result ≡ Err GenFault.Invalid → AreSequential (Mark mark.If) (all_choices choices.now)
+            → around.entry.limits.is_sequential ≡ false }
     {
         let end = self.label;
         self.label = label_after(end)?;
@@ -210,6 +216,8 @@ impl<'a> ProcessWriter<'a> {
         ensures ok { IfOk result (λ _. WritesChoices self.old self.new around.entry end (all_choices choices.now)) }
         ensures limit { result ≡ Err GenFault.Limit → Exceeds around.entry.limits self.old.listing
             (choices_at (surroundings_of around.entry) end (all_choices choices.now) (site_of self.old)) }
+        ensures invalid { result ≡ Err GenFault.Invalid → AreSequential (Mark mark.If) (all_choices choices.now)
+            → around.entry.limits.is_sequential ≡ false }
     {
         let ended = EndedChoices::of(choices);
         for choice in ended.tested {
@@ -230,6 +238,9 @@ impl<'a> ProcessWriter<'a> {
         ensures ok { IfOk result (λ _. WritesEnding self.old self.new around.entry end ending.entry) }
         ensures limit { result ≡ Err GenFault.Limit → Exceeds around.entry.limits self.old.listing
             (ending_at (surroundings_of around.entry) end ending.entry (site_of self.old)) }
+        ensures invalid { result ≡ Err GenFault.Invalid
+            → AreSequential (Mark mark.If) (all_choices (choices_in ending.entry))
+            → around.entry.limits.is_sequential ≡ false }
     {
         match ending {
             IfEnding::Stops => Ok(self.listing.operate(operations::STOP_PROCESS)?),
@@ -253,6 +264,8 @@ impl<'a> ProcessWriter<'a> {
             (choice_of choice.now)) }
         ensures limit { result ≡ Err GenFault.Limit → Exceeds around.entry.limits self.old.listing
             (choice_as (tested_code end) (surroundings_of around.entry) (choice_of choice.now) (site_of self.old)) }
+        ensures invalid { result ≡ Err GenFault.Invalid → IsSequentialComponent (Mark mark.If) (choice_of choice.now)
+            → around.entry.limits.is_sequential ≡ false }
     {
         let other = self.label;
         self.label = label_after(other)?;
@@ -275,6 +288,8 @@ impl<'a> ProcessWriter<'a> {
             (choice_of choice.now)) }
         ensures limit { result ≡ Err GenFault.Limit → Exceeds around.entry.limits self.old.listing
             (choice_as (open_code end) (surroundings_of around.entry) (choice_of choice.now) (site_of self.old)) }
+        ensures invalid { result ≡ Err GenFault.Invalid → IsSequentialComponent (Mark mark.If) (choice_of choice.now)
+            → around.entry.limits.is_sequential ≡ false }
     {
         self.write_test(around.limits, &choice.condition, end)?;
         self.write_taken(around, choice)?;
@@ -291,6 +306,8 @@ impl<'a> ProcessWriter<'a> {
         ensures ok { IfOk result (λ _. WritesAs self.old self.new around.entry taken_code (choice_of choice.now)) }
         ensures limit { result ≡ Err GenFault.Limit → Exceeds around.entry.limits self.old.listing
             (choice_as taken_code (surroundings_of around.entry) (choice_of choice.now) (site_of self.old)) }
+        ensures invalid { result ≡ Err GenFault.Invalid → IsSequentialComponent (Mark mark.If) (choice_of choice.now)
+            → around.entry.limits.is_sequential ≡ false }
     {
         self.scope.exclude(&choice.condition);
         narrow_by(&mut self.scope, &choice.condition, true);
@@ -313,6 +330,8 @@ impl<'a> ProcessWriter<'a> {
         ensures limit { result ≡ Err GenFault.Limit → Exceeds around.entry.limits self.old.listing
             (construct_code (surroundings_of around.entry) line
             (under_if (replicator_of replicator.now) (choice_of choice.now)) (site_of self.old)) }
+        ensures invalid { result ≡ Err GenFault.Invalid → IsSequentialComponent (Mark mark.If) (choice_of choice.now)
+            → around.entry.limits.is_sequential ≡ false }
     {
         let end = self.label;
         self.label = label_after(end)?;
@@ -352,6 +371,8 @@ impl<'a> ProcessWriter<'a> {
         ensures limit { result ≡ Err GenFault.Limit → Exceeds around.entry.limits self.old.listing
             (turns_at (surroundings_of around.entry) end name.now (choice_of choice.now) (seen_repeats repeats) count
             (site_of self.old)) }
+        ensures invalid { result ≡ Err GenFault.Invalid → IsSequentialComponent (Mark mark.If) (choice_of choice.now)
+            → around.entry.limits.is_sequential ≡ false }
     {
         let tested = turns_tested(count, &choice.condition);
         for turn in 0..tested {

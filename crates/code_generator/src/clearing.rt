@@ -1,6 +1,6 @@
 //! Setting to 0 what a line declares, as long as there is room. If a function fails, some pieces more may have come.
 
-ghost use Rattle.std.specs.Prelude.{◌≡◌, ◌++◌, IfOk, Err};
+ghost use Rattle.std.specs.Prelude.{◌≡◌, ◌≢◌, ◌++◌, IfOk, Err};
 ghost use Rattle.occam_parser.specs.OneOrMore.{as_list, one_or_more_of};
 ghost use Rattle.occam_parser.specs.LineViews.{any_of, spelling_of};
 ghost use Rattle.line_pieces.specs.Declarations.{zero_code, zero_names};
@@ -22,6 +22,7 @@ fn clear_name(
     ensures code { IfOk result (λ _. listing.new ≡ listing.old ++ zero_code (any_of size.now) word count) }
     ensures limit { result ≡ Err GenFault.Limit
         → IsTooMuch limits listing.old (zero_code (any_of size.now) word count) }
+    ensures invalid { result ≢ Err GenFault.Invalid }
 {
     listing.write_zero(size, word, count)?;
     limits.ask_room(listing)
@@ -41,6 +42,7 @@ pub(crate) fn clear_names(
         ++ zero_names (any_of size.now) count (as_list (one_or_more_of spelling_of names.now)) word) }
     ensures limit { result ≡ Err GenFault.Limit → IsTooMuch limits listing.old
         (zero_names (any_of size.now) count (as_list (one_or_more_of spelling_of names.now)) word) }
+    ensures invalid { result ≢ Err GenFault.Invalid }
 {
     clear_name(listing, limits, size, word, count)?;
     let mut next = word_after(word, count);

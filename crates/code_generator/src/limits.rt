@@ -1,6 +1,6 @@
 //! How much is gone over and said at most, so that the time and the memory of a program are bounded.
 
-ghost use Rattle.std.specs.Prelude.{◌≡◌, IfOk, Err, false, true};
+ghost use Rattle.std.specs.Prelude.{◌≡◌, ◌≢◌, IfOk, Err, false, true};
 ghost use Rattle.line_pieces.specs.Limits.{is_too_much};
 ghost use Rattle.code_generator.specs.Written.{Spends};
 
@@ -34,7 +34,8 @@ pub struct Limits {
 impl Limits {
     /// What it is that processes are too deep in one another.
     pub(crate) fn too_deep(self) -> GenFault
-        ensures { result ≡ GenFault.Limit → self.is_sequential ≡ false }
+        ensures limit { result ≡ GenFault.Limit → self.is_sequential ≡ false }
+        ensures invalid { result ≢ GenFault.Invalid }
     {
         if self.is_sequential {
             GenFault::Memory
@@ -45,8 +46,9 @@ impl Limits {
 
     /// The error is [`GenFault::Limit`] if what was written is too much.
     pub(crate) fn ask_room(self, listing: &Listing) -> Result<(), GenFault>
-        ensures { result ≡ Err GenFault.Limit → self.is_sequential ≡ true
+        ensures limit { result ≡ Err GenFault.Limit → self.is_sequential ≡ true
             → is_too_much self.names listing.now ≡ true }
+        ensures invalid { result ≢ Err GenFault.Invalid }
     {
         let is_full = if self.is_sequential {
             listing.is_too_much(self.names)
@@ -126,6 +128,7 @@ impl ProcessWriter<'_> {
     ) -> Result<(), GenFault>
         ensures ok { IfOk result (λ _. Spends self.old self.new) }
         ensures limit { result ≡ Err GenFault.Limit → limits.is_sequential ≡ false }
+        ensures invalid { result ≡ Err GenFault.Invalid → limits.is_sequential ≡ false }
     {
         if limits.is_sequential {
             return Ok(());
@@ -138,6 +141,7 @@ impl ProcessWriter<'_> {
     pub(crate) fn look_around(&mut self, limits: Limits) -> Result<(), GenFault>
         ensures ok { IfOk result (λ _. Spends self.old self.new) }
         ensures limit { result ≡ Err GenFault.Limit → limits.is_sequential ≡ false }
+        ensures invalid { result ≡ Err GenFault.Invalid → limits.is_sequential ≡ false }
     {
         if limits.is_sequential {
             return Ok(());
@@ -149,6 +153,7 @@ impl ProcessWriter<'_> {
     pub(crate) fn say(&mut self, limits: Limits, entries: usize) -> Result<(), GenFault>
         ensures ok { IfOk result (λ _. Spends self.old self.new) }
         ensures limit { result ≡ Err GenFault.Limit → limits.is_sequential ≡ false }
+        ensures invalid { result ≡ Err GenFault.Invalid → limits.is_sequential ≡ false }
     {
         if limits.is_sequential {
             return Ok(());

@@ -88,6 +88,7 @@ impl<'a> ProcessWriter<'a> {
     pub(crate) fn find(&mut self, limits: Limits, process: &Process) -> Result<(), GenFault>
         ensures ok { IfOk result (λ _. Spends self.old self.new) }
         ensures limit { result ≡ Err GenFault.Limit → limits.is_sequential ≡ false }
+        ensures invalid { result ≡ Err GenFault.Invalid → limits.is_sequential ≡ false }
     {
         if limits.is_sequential {
             return Ok(());
@@ -105,6 +106,7 @@ impl<'a> ProcessWriter<'a> {
         ensures ok { IfOk result (λ _. EntersLoop self.old self.new turning.entry changed.now) }
         ensures limit { result ≡ Err GenFault.Limit → IsTooMuch limits self.old.listing
             (entering_code turning.entry changed.now (site_of self.old)) }
+        ensures invalid { result ≡ Err GenFault.Invalid → limits.is_sequential ≡ false }
     {
         let head = self.label;
         let behind = label_after(head)?;
@@ -133,6 +135,7 @@ impl<'a> ProcessWriter<'a> {
         ensures ok { IfOk result (λ _. LeavesLoop self.old self.new names word head) }
         ensures limit { result ≡ Err GenFault.Limit → IsTooMuch limits self.old.listing
             (leaving_code names word head (site_of self.old)) }
+        ensures invalid { result ≡ Err GenFault.Invalid → limits.is_sequential ≡ false }
     {
         let behind = label_after(head)?;
         self.scope.end();
@@ -151,6 +154,7 @@ impl<'a> ProcessWriter<'a> {
         ensures ok { IfOk result (λ _. WritesNoLoop self.old self.new changed.now) }
         ensures limit { result ≡ Err GenFault.Limit
             → Exceeds limits self.old.listing (idle_code changed.now (site_of self.old)) }
+        ensures invalid { result ≡ Err GenFault.Invalid → limits.is_sequential ≡ false }
     {
         let is_less_known = has_scalar(&self.scope, changed);
         self.scope.widen(changed);

@@ -1,6 +1,8 @@
 //! Writing the code of processes. If a function fails, some pieces more may have come.
 
-ghost use Rattle.std.specs.Prelude.{◌≡◌, ◌++◌, ◌∷◌, [], IfOk, Err, map, false};
+ghost use Rattle.std.specs.Prelude.{◌≡◌, ◌≢◌, ◌++◌, ◌∷◌, [], IfOk, Err, map, false};
+ghost use Rattle.occam_layout.specs.declared.mark.Mark.TheVariants as mark;
+ghost use Rattle.occam_parser.specs.Terminals.{Mark};
 ghost use Rattle.occam_parser.specs.Views.{expression_of};
 ghost use Rattle.occam_parser.specs.Lines.{Constants, Variables, Channels, Stop, Instance};
 ghost use Rattle.occam_parser.specs.Blocks.{Act, Replicated};
@@ -9,6 +11,8 @@ ghost use Rattle.occam_parser.specs.BlockViews.{process_of, construct_of, body_o
 ghost use Rattle.scalar_ranges.specs.Scopes.{entries_of, known_of};
 ghost use Rattle.line_pieces.specs.Actions.{action_code, test_code};
 ghost use Rattle.line_pieces.specs.Declarations.{declaration_code};
+ghost use Rattle.program_meaning.specs.Sequential.{IsSequential, IsSequentialAction, IsSequentialConstruct};
+ghost use Rattle.program_meaning.specs.Sequential.{IsSequentialBody, AreSequential};
 ghost use Rattle.code_generator.specs.CallViews.{surroundings_of};
 ghost use Rattle.line_pieces.specs.FrameViews.{frame_seen};
 ghost use Rattle.code_generator.specs.Processes.{row_of, line_code, process_code};
@@ -100,6 +104,7 @@ impl<'a> ProcessWriter<'a> {
         ensures ok { IfOk result (λ _. Declares self.old self.new (Variables (names_of names.now))) }
         ensures limit { result ≡ Err GenFault.Limit → IsTooMuch limits self.old.listing
             (declaration_code (entries_of self.old.scope) (Variables (names_of names.now)) self.old.frame.top) }
+        ensures invalid { result ≢ Err GenFault.Invalid }
     {
         let count = words_in(&self.scope, names.value_type, &names.size);
         let meaning = variable_meaning(&self.scope, names.value_type, &names.size);
@@ -133,6 +138,7 @@ impl<'a> ProcessWriter<'a> {
         ensures ok { IfOk result (λ _. Declares self.old self.new (declaration_of declaration.now)) }
         ensures limit { result ≡ Err GenFault.Limit → IsTooMuch limits self.old.listing
             (declaration_code (entries_of self.old.scope) (declaration_of declaration.now) self.old.frame.top) }
+        ensures invalid { result ≡ Err GenFault.Invalid → limits.is_sequential ≡ false }
     {
         self.walk_over(limits, size_of_declaration(declaration), 0)?;
         match declaration {
@@ -151,6 +157,7 @@ impl<'a> ProcessWriter<'a> {
         ensures ok { IfOk result (λ _. DeclaresAll self.old self.new (map declaration_of declarations.now)) }
         ensures limit { result ≡ Err GenFault.Limit → IsTooMuch limits self.old.listing
             (declarations_code (map declaration_of declarations.now) (site_of self.old)) }
+        ensures invalid { result ≡ Err GenFault.Invalid → limits.is_sequential ≡ false }
     {
         for declaration in declarations {
             self.declare(limits, declaration)?;
@@ -165,6 +172,7 @@ impl<'a> ProcessWriter<'a> {
         ensures site { IfOk result (λ _. site_of self.new ≡ site_of self.old) }
         ensures limit { result ≡ Err GenFault.Limit → IsTooMuch limits self.old.listing
             (row_of label (frame_seen self.old.frame) (known_of self.old.scope) ∷ []) }
+        ensures invalid { result ≡ Err GenFault.Invalid → limits.is_sequential ≡ false }
     {
         self.look_around(limits)?;
         let entries = facts_in(self.alloc, &self.scope, &self.frame)?;
@@ -181,6 +189,7 @@ impl<'a> ProcessWriter<'a> {
         ensures frame { IfOk result (λ _. frame_seen self.new.frame ≡ frame_seen self.old.frame) }
         ensures limit { result ≡ Err GenFault.Limit → Exceeds limits self.old.listing
             (action_code (frame_seen self.old.frame) (entries_of self.old.scope) self.old.label Stop) }
+        ensures invalid { result ≡ Err GenFault.Invalid → limits.is_sequential ≡ false }
     {
         let label = self.label;
         self.label = label_after(label)?;
@@ -199,6 +208,8 @@ impl<'a> ProcessWriter<'a> {
         ensures limit { result ≡ Err GenFault.Limit → Exceeds limits self.old.listing
             (action_code (frame_seen self.old.frame) (entries_of self.old.scope) self.old.label
             (action_of action.now)) }
+        ensures invalid { result ≡ Err GenFault.Invalid → IsSequentialAction (action_of action.now)
+            → limits.is_sequential ≡ false }
     {
         let setting = Setting {
             scope: &self.scope,
@@ -233,6 +244,7 @@ impl<'a> ProcessWriter<'a> {
             self.old.frame.top (expression_of condition.now) label) }
         ensures site { IfOk result (λ _. site_of self.new ≡ site_of self.old) }
         ensures limit { result ≡ Err GenFault.Limit → limits.is_sequential ≡ false }
+        ensures invalid { result ≡ Err GenFault.Invalid → limits.is_sequential ≡ false }
     {
         let reading = reading_of_condition(condition);
         self.walk_over(limits, size_of_condition(condition), reading)?;
@@ -255,6 +267,8 @@ impl<'a> ProcessWriter<'a> {
         ensures ok { IfOk result (λ _. WritesProcess self.old self.new around.entry (process_of process.now)) }
         ensures limit { result ≡ Err GenFault.Limit → Exceeds around.entry.limits self.old.listing
             (process_code (surroundings_of around.entry) (process_of process.now) (site_of self.old)) }
+        ensures invalid { result ≡ Err GenFault.Invalid → IsSequential (process_of process.now)
+            → around.entry.limits.is_sequential ≡ false }
     {
         let before = self.begin_line(process.line)?;
         self.write_process(around, process)?;
@@ -272,6 +286,8 @@ impl<'a> ProcessWriter<'a> {
         ensures ok { IfOk result (λ _. WritesProcess self.old self.new around.entry (process_of process.now)) }
         ensures limit { result ≡ Err GenFault.Limit → Exceeds around.entry.limits self.old.listing
             (process_code (surroundings_of around.entry) (process_of process.now) (site_of self.old)) }
+        ensures invalid { result ≡ Err GenFault.Invalid → IsSequential (process_of process.now)
+            → around.entry.limits.is_sequential ≡ false }
     {
         let inside = around.inside()?;
         let count = self.frame.homes.len();
@@ -294,6 +310,8 @@ impl<'a> ProcessWriter<'a> {
             (construct_of construct.now)) }
         ensures limit { result ≡ Err GenFault.Limit → Exceeds around.entry.limits self.old.listing
             (construct_code (surroundings_of around.entry) line (construct_of construct.now) (site_of self.old)) }
+        ensures invalid { result ≡ Err GenFault.Invalid → IsSequentialConstruct (construct_of construct.now)
+            → around.entry.limits.is_sequential ≡ false }
     {
         match construct {
             Construct::Action(action) => self.act(around, line, action),
@@ -319,6 +337,8 @@ impl<'a> ProcessWriter<'a> {
             (Act (action_of action.now))) }
         ensures limit { result ≡ Err GenFault.Limit → Exceeds around.entry.limits self.old.listing
             (line_code (surroundings_of around.entry) (action_of action.now) (site_of self.old)) }
+        ensures invalid { result ≡ Err GenFault.Invalid → IsSequentialAction (action_of action.now)
+            → around.entry.limits.is_sequential ≡ false }
     {
         let reading = reading_of_action(action);
         self.walk_over(around.limits, size_of_action(action), reading)?;
@@ -337,6 +357,8 @@ impl<'a> ProcessWriter<'a> {
         ensures ok { IfOk result (λ _. WritesLine self.old self.new around.entry (action_of action.now)) }
         ensures limit { result ≡ Err GenFault.Limit → Exceeds around.entry.limits self.old.listing
             (line_code (surroundings_of around.entry) (action_of action.now) (site_of self.old)) }
+        ensures invalid { result ≡ Err GenFault.Invalid → IsSequentialAction (action_of action.now)
+            → around.entry.limits.is_sequential ≡ false }
     {
         match action {
             Action::Instance { name, actuals } => self.write_instance(around, name, actuals),
@@ -382,6 +404,8 @@ impl<'a> ProcessWriter<'a> {
         ensures ok { IfOk result (λ _. WritesSeq self.old self.new around.entry (all_processes processes.now)) }
         ensures limit { result ≡ Err GenFault.Limit → Exceeds around.entry.limits self.old.listing
             (components_code (surroundings_of around.entry) (all_processes processes.now) (site_of self.old)) }
+        ensures invalid { result ≡ Err GenFault.Invalid → AreSequential (Mark mark.Seq) (all_processes processes.now)
+            → around.entry.limits.is_sequential ≡ false }
     {
         for process in processes {
             self.write_one(around, process)?;
@@ -399,6 +423,8 @@ impl<'a> ProcessWriter<'a> {
         ensures ok { IfOk result (λ _. WritesOne self.old self.new around.entry (plain_component process.now)) }
         ensures limit { result ≡ Err GenFault.Limit → Exceeds around.entry.limits self.old.listing
             (component_code (surroundings_of around.entry) (plain_component process.now) (site_of self.old)) }
+        ensures invalid { result ≡ Err GenFault.Invalid → IsSequential (process_of process.now)
+            → around.entry.limits.is_sequential ≡ false }
     {
         let count = self.scope.len();
         self.write(around, process)?;
@@ -420,6 +446,8 @@ impl<'a> ProcessWriter<'a> {
         ensures limit { result ≡ Err GenFault.Limit → Exceeds around.entry.limits self.old.listing
             (body_code (surroundings_of around.entry) line (replicator_of replicator.now) (body_of body.now)
             (site_of self.old)) }
+        ensures invalid { result ≡ Err GenFault.Invalid → IsSequentialBody (body_of body.now)
+            → around.entry.limits.is_sequential ≡ false }
     {
         match body {
             Body::Seq(process) => {
@@ -455,6 +483,8 @@ impl<'a> ProcessWriter<'a> {
         ensures limit { result ≡ Err GenFault.Limit → Exceeds around.entry.limits self.old.listing
             (looped_code (surroundings_of around.entry) line (replicator_of replicator.now) changed.now
             (process_of process.now) (site_of self.old)) }
+        ensures invalid { result ≡ Err GenFault.Invalid → IsSequential (process_of process.now)
+            → around.entry.limits.is_sequential ≡ false }
     {
         let count = value_or_zero(&self.scope, &replicator.count);
         if count == 0 {

@@ -1,11 +1,11 @@
 //! The code of a program.
 
-ghost use Rattle.std.specs.Prelude.{◌≡◌, ◌≤◌, length, map, IfOk, IfSome, Err};
+ghost use Rattle.std.specs.Prelude.{◌≡◌, ◌≤◌, length, map, IfOk, IfSome, Err, false};
 ghost use Rattle.occam_parser.specs.LineViews.{formal_of};
 ghost use Rattle.occam_parser.specs.Blocks.{GlobalProcedure};
 ghost use Rattle.occam_parser.specs.BlockViews.{item_of, procedure_of};
 ghost use Rattle.program_meaning.specs.Meaning.{link_number, port_for};
-ghost use Rattle.program_meaning.specs.Sequential.{IsSequentialProgram};
+ghost use Rattle.program_meaning.specs.Sequential.{IsSequential, IsSequentialProgram};
 ghost use Rattle.line_pieces.specs.HomeViews.{home_seen};
 ghost use Rattle.line_pieces.specs.FrameViews.{frame_seen};
 ghost use Rattle.code_generator.specs.CallViews.{callees_of, surroundings_of};
@@ -141,6 +141,8 @@ impl<'a> ProcessWriter<'a> {
         ensures ok { IfOk result (λ _. WritesMain self.old self.new around.entry (procedure_of main.now)) }
         ensures limit { result ≡ Err GenFault.Limit → Exceeds around.entry.limits self.old.listing
             (main_code (surroundings_of around.entry) (procedure_of main.now) (site_of self.old)) }
+        ensures invalid { result ≡ Err GenFault.Invalid → IsSequential (procedure_of main.now).body
+            → around.entry.limits.is_sequential ≡ false }
     {
         add_links(&mut self.frame, &main.formals)?;
         add_formals(self.alloc, &mut self.scope, &main.formals)?;
@@ -164,13 +166,15 @@ fn limits_of(items: &[Item], main: &Proc) -> Limits
 /// The code of a program. The definition has that of programs without `PAR` and `ALT`; of others no clause says it. The
 /// error is [`GenFault::Limit`] if too much is gone over, so that the time and the memory that it takes are bounded,
 /// however often procedures are called, or if a `PAR` or an `ALT` is above a limit of the format. Of a sequential
-/// program it comes only if the sums over the tree are too much, or if the code by the definition is. No checked
-/// program is known for which it is [`GenFault::Invalid`].
+/// program it comes only if the sums over the tree are too much, or if the code by the definition is. It is never
+/// [`GenFault::Invalid`] of a sequential program, and of no other checked one that is known.
 pub fn code_of(alloc: Global, program: &CheckedProgram) -> Result<Code, GenFault>
     ensures ok { IfOk result (λ code. IfSome (code_of (map item_of program.now.program.items.items))
         (λ c. code ≡ c)) }
     ensures limit { result ≡ Err GenFault.Limit → IsSequentialProgram (map item_of program.now.program.items.items)
         → IsTooMuchToWrite (map item_of program.now.program.items.items) }
+    ensures invalid { result ≡ Err GenFault.Invalid
+        → ¬ IsSequentialProgram (map item_of program.now.program.items.items) }
 {
     let items = program.program().items();
     let Some((last, before)) = items.split_last() else {

@@ -1,8 +1,10 @@
 use Rattle.std.proofs.Common.{◌≡◌, ◌+◌, ◌≤◌, length, map, IfOk, arith, refl, ap, sym, subst, ◌∙◌, rules, Some, Err}
 use Rattle.std.proofs.Common.{true, false, option_map, w32, of_z}
 use Rattle.std.proofs.lemmas.Int.{to_z-of_z}
-use Rattle.module_builder.specs.declared.fault.GenFault.TheVariants.{Limit}
+use Rattle.occam_layout.specs.declared.mark.Mark.TheVariants as mark
+use Rattle.module_builder.specs.declared.fault.GenFault.TheVariants.{Limit, Invalid}
 use Rattle.occam_parser.specs.declared.tree.Body.{the_lemmas}
+use Rattle.occam_parser.specs.Terminals.{Mark}
 use Rattle.occam_parser.specs.Views.{expression_of}
 use Rattle.occam_parser.specs.LineViews.{action_of, declaration_of, replicator_of, guard_of}
 use Rattle.occam_parser.specs.Lines.{Instance}
@@ -10,12 +12,14 @@ use Rattle.occam_parser.specs.Blocks.{Does, Guarded, Replicated}
 use Rattle.occam_parser.specs.BlockReading.{with_declarations}
 use Rattle.occam_parser.specs.BlockViews.{process_of, construct_of, choice_of, plain_component, all_processes}
 use Rattle.occam_parser.specs.BlockViews.{all_choices, all_branches, branch_of, body_of}
-use Rattle.occam_parser.proofs.SeenBlocks.{view-Seq, view-Par, view-If, view-Alt, view-Body-Seq, view-Body-Par}
-use Rattle.occam_parser.proofs.SeenBlocks.{view-Body-Alt}
+use Rattle.occam_parser.proofs.SeenBlocks.{view-Alt, view-Body-Par, view-Body-Seq, view-If, view-Par, view-Replicated, view-Seq}
+use Rattle.occam_parser.proofs.SeenBlocks.{view-Body-If, view-Body-Alt, view-Action}
 use Rattle.scalar_ranges.specs.Moves.{begin, begin_par}
 use Rattle.scalar_ranges.specs.Scopes.{known_of, meaning_of}
 use Rattle.program_uses.specs.Changes.{changed_by_construct}
 use Rattle.program_uses.specs.Indices.{repeats_of, seen_repeats, index_in}
+use Rattle.program_meaning.specs.Sequential.{IsSequentialAction, IsSequentialConstruct}
+use Rattle.program_meaning.specs.Sequential.{IsSequentialBody, AreSequential, IsSequentialComponent}
 use Rattle.usage_checks.specs.AfterProcesses.{inside, left_to, after_construct}
 use Rattle.usage_checks.specs.Following.{after_action, where_holds}
 use Rattle.usage_checks.specs.NameRules.{with_entries}
@@ -32,6 +36,7 @@ use Rattle.code_generator.specs.Branches.{WritesPar}
 use Rattle.code_generator.specs.Processes.{Site, Surroundings, at_place, taken_code, tested_code, open_code}
 use Rattle.code_generator.specs.Processes.{process_code, line_code, construct_code, components_code}
 use Rattle.code_generator.specs.Written.{site_of, Writes, WritesConstruct, WritesSeq, WritesLine, EntersLoop, IsTooMuch}
+use Rattle.code_generator.specs.Written.{choices_in}
 use Rattle.code_generator.specs.Written.{Exceeds, entering_code, choice_as, WritesAs, if_at, WritesIf, before_turns}
 use Rattle.code_generator.specs.Written.{ending_at, WritesEnding, WritesSomeTurns, turns_at, WritesTurns}
 use Rattle.code_generator.proofs.ActsWritten.{writes_act, writes_from, writes_still, writes_instance}
@@ -46,6 +51,8 @@ use Rattle.code_generator.proofs.BranchesFollowed.{goes_on, by_site, alt_follows
 use Rattle.code_generator.proofs.BranchesFollowed.{branches_next, branches_done, some_next, follows_repeated}
 use Rattle.code_generator.proofs.BranchesWritten.{par_next, par_done, par_turns_next, writes_component, writes_no_turns}
 use Rattle.code_generator.proofs.BranchesWritten.{writes_repeated_par}
+use Rattle.code_generator.proofs.PartsSequential.{construct_sequential, component_sequential, tested_sequential}
+use Rattle.code_generator.proofs.PartsSequential.{ending_sequential}
 use Rattle.code_generator.proofs.PartsWritten.{writes_none, writes_moved, writes_behind, seq_next, seq_done}
 use Rattle.code_generator.proofs.ChoicesWritten.{choice_seen, writes_if, writes_taken, writes_tested, writes_open}
 use Rattle.code_generator.proofs.ChoicesWritten.{tested_next, tested_done, choices_written, writes_opens}
@@ -816,7 +823,7 @@ write_choices-returns-clause-ok t c =
     let ended = c.of-ended.result in
     let done : length ended.tested.now ≤ c.loop-choice.choice-index = omega arith in
     choices_written c.args.around c.args.end (all_choices c.args.choices.now) ended.tested.now ended.ending
-    c.of-ended.ensures
+    c.of-ended.ensures.ended
     (tested_done c.args.around c.args.end choice_of ended.tested.now c.loop-choice.choice-index done
     c.loop-choice.invariant) c.in_ok-write_ending.ensures.ok
 
@@ -826,7 +833,7 @@ write_choices-returns-in_err-write_tested-clause-limit t c = λ e.
     let ended = c.of-ended.result in
     let fault = handed_on c.from_residual.result c.in_err-write_tested.field-0.0 Limit c.from_residual.ensures.1 e in
     exceeds_choices c.args.around.limits c.args.around c.args.end (all_choices c.args.choices.now) ended.tested.now
-    ended.ending c.loop-choice.choice-index c.choice-item.result c.of-ended.ensures (omega arith) c.choice-item.is
+    ended.ending c.loop-choice.choice-index c.choice-item.result c.of-ended.ensures.ended (omega arith) c.choice-item.is
     c.loop-choice.invariant (c.in_err-write_tested.ensures.limit (ap Err fault))
 
 pub write_choices-returns-in_err-write_ending-clause-limit :
@@ -837,7 +844,7 @@ write_choices-returns-in_err-write_ending-clause-limit t c = λ e.
     let fault = handed_on c.from_residual-in_err-write_ending.result c.in_err-write_ending.field-0.0 Limit
     c.from_residual-in_err-write_ending.ensures.1 e in
     exceeds_ending c.args.around.limits c.args.around c.args.end (all_choices c.args.choices.now) ended.tested.now
-    ended.ending c.of-ended.ensures
+    ended.ending c.of-ended.ensures.ended
     (tested_done c.args.around c.args.end choice_of ended.tested.now c.loop-choice.choice-index done
     c.loop-choice.invariant) (c.in_err-write_ending.ensures.limit (ap Err fault))
 
@@ -936,3 +943,136 @@ write_turns-returns-in_err-write_taken-clause-limit t c = λ e.
     c.if-tested-count.false c.index_in-2.ensures
     (λ i. record { entries = named.ok i; blocks = named.extends.blocks i }) written
     (c.in_err-write_taken.ensures.limit (ap Err fault))
+
+-- ---- what is invalid
+
+pub write_process-returns-in_err-write_construct-clause-invalid :
+    goal.write_process-returns-in_err-write_construct-clause-invalid
+write_process-returns-in_err-write_construct-clause-invalid t c = λ e sequential.
+    let p = c.args.process.now in
+    let view : with_declarations (map declaration_of p.declarations.items)
+    (Does p.line (construct_of p.construct.value)) ≡ process_of p = search (rules, the_lemmas) in
+    let fault = handed_on c.from_residual-in_err-write_construct.result c.in_err-write_construct.field-0.0 Invalid
+    c.from_residual-in_err-write_construct.ensures.1 e in
+    sym (ap (λ (l : Limits). l.is_sequential) c.in_ok-inside.ensures.limits)
+    ∙ c.in_err-write_construct.ensures.invalid (ap Err fault)
+    (subst (λ d. IsSequentialConstruct (construct_of d)) (sym c.deref-2.ensures)
+    (construct_sequential (map declaration_of p.declarations.items) p.line (construct_of p.construct.value)
+    (process_of p) view sequential))
+
+pub write_construct-returns-in-Action-clause-invalid : goal.write_construct-returns-in-Action-clause-invalid
+write_construct-returns-in-Action-clause-invalid t c = λ e sequential.
+    c.act.ensures.invalid e
+    (subst IsSequentialConstruct (ap construct_of c.in-Action.is ∙ view-Action c.in-Action.action) sequential)
+
+pub write_construct-returns-in-Seq-clause-invalid : goal.write_construct-returns-in-Seq-clause-invalid
+write_construct-returns-in-Seq-clause-invalid t c = λ e sequential.
+    let v = c.in-Seq.processes in
+    let all = subst IsSequentialConstruct (ap construct_of c.in-Seq.is ∙ view-Seq v) sequential in
+    c.write_seq.ensures.invalid e (subst (λ ps. AreSequential (Mark mark.Seq) (all_processes ps))
+    (sym c.deref.ensures.value) all.1)
+
+pub write_construct-returns-in-If-clause-invalid : goal.write_construct-returns-in-If-clause-invalid
+write_construct-returns-in-If-clause-invalid t c = λ e sequential.
+    let v = c.in-If.choices in
+    let all = subst IsSequentialConstruct (ap construct_of c.in-If.is ∙ view-If v) sequential in
+    c.write_if.ensures.invalid e (subst (λ cs. AreSequential (Mark mark.If) (all_choices cs))
+    (sym c.deref-in-If.ensures.value) all.1)
+
+pub write_construct-returns-in-Replicated-clause-invalid : goal.write_construct-returns-in-Replicated-clause-invalid
+write_construct-returns-in-Replicated-clause-invalid t c = λ e sequential.
+    let r = c.in-Replicated.replicator in
+    let b = c.in-Replicated.body in
+    c.write_replicated.ensures.invalid e
+    (subst IsSequentialConstruct (ap construct_of c.in-Replicated.is ∙ view-Replicated r b) sequential)
+
+pub write_construct-returns-in-Par-clause-invalid : goal.write_construct-returns-in-Par-clause-invalid
+write_construct-returns-in-Par-clause-invalid t c = λ e sequential.
+    absurd (subst IsSequentialConstruct (ap construct_of c.in-Par.is ∙ view-Par c.in-Par.processes) sequential).0
+
+pub write_construct-returns-in-Alt-clause-invalid : goal.write_construct-returns-in-Alt-clause-invalid
+write_construct-returns-in-Alt-clause-invalid t c = λ e sequential.
+    absurd (subst IsSequentialConstruct (ap construct_of c.in-Alt.is ∙ view-Alt c.in-Alt.branches) sequential).0
+
+pub write_line-returns-in-Instance-clause-invalid : goal.write_line-returns-in-Instance-clause-invalid
+write_line-returns-in-Instance-clause-invalid t c = λ e sequential.
+    absurd (subst (λ a. IsSequentialAction (action_of a)) c.in-Instance.is sequential)
+
+pub write_seq-returns-in_err-write_one-clause-invalid : goal.write_seq-returns-in_err-write_one-clause-invalid
+write_seq-returns-in_err-write_one-clause-invalid t c = λ e sequential.
+    let fault = handed_on c.from_residual.result c.in_err-write_one.field-0.0 Invalid
+    c.from_residual.ensures.1 e in
+    c.in_err-write_one.ensures.invalid (ap Err fault)
+    (component_sequential (Mark mark.Seq) plain_component c.args.processes.now c.loop-process.process-index
+    c.process-item.result (omega arith) c.process-item.is sequential)
+
+pub write_replicated-returns-in_err-write_loop-in-Seq-clause-invalid :
+    goal.write_replicated-returns-in_err-write_loop-in-Seq-clause-invalid
+write_replicated-returns-in_err-write_loop-in-Seq-clause-invalid t c = λ e sequential.
+    let p = c.in-Seq.process in
+    let fault = handed_on c.from_residual-in_err-write_loop-in-Seq.result c.in_err-write_loop-in-Seq.field-0.0 Invalid
+    c.from_residual-in_err-write_loop-in-Seq.ensures.1 e in
+    c.in_err-write_loop-in-Seq.ensures.invalid (ap Err fault)
+    (subst IsSequentialBody (ap body_of c.in-Seq.is ∙ view-Body-Seq p) sequential)
+
+pub write_replicated-returns-in-If-clause-invalid : goal.write_replicated-returns-in-If-clause-invalid
+write_replicated-returns-in-If-clause-invalid t c = λ e sequential.
+    c.write_repeated_if.ensures.invalid e
+    (subst IsSequentialBody (ap body_of c.in-If.is ∙ view-Body-If c.in-If.choice) sequential)
+
+pub write_replicated-returns-in-Par-clause-invalid : goal.write_replicated-returns-in-Par-clause-invalid
+write_replicated-returns-in-Par-clause-invalid t c = λ e sequential.
+    absurd (subst IsSequentialBody (ap body_of c.in-Par.is ∙ view-Body-Par c.in-Par.process) sequential)
+
+pub write_replicated-returns-in-Alt-clause-invalid : goal.write_replicated-returns-in-Alt-clause-invalid
+write_replicated-returns-in-Alt-clause-invalid t c = λ e sequential.
+    absurd (subst IsSequentialBody (ap body_of c.in-Alt.is ∙ view-Body-Alt c.in-Alt.branch) sequential)
+
+pub write_choices-returns-in_err-write_tested-clause-invalid :
+    goal.write_choices-returns-in_err-write_tested-clause-invalid
+write_choices-returns-in_err-write_tested-clause-invalid t c = λ e sequential.
+    let ended = c.of-ended.result in
+    let fault = handed_on c.from_residual.result c.in_err-write_tested.field-0.0 Invalid
+    c.from_residual.ensures.1 e in
+    c.in_err-write_tested.ensures.invalid (ap Err fault)
+    (component_sequential (Mark mark.If) choice_of ended.tested.now c.loop-choice.choice-index c.choice-item.result
+    (omega arith) c.choice-item.is
+    (tested_sequential c.args.choices.now ended.tested.now (choices_in ended.ending) c.of-ended.ensures.whole
+    sequential))
+
+pub write_choices-returns-in_err-write_ending-clause-invalid :
+    goal.write_choices-returns-in_err-write_ending-clause-invalid
+write_choices-returns-in_err-write_ending-clause-invalid t c = λ e sequential.
+    let ended = c.of-ended.result in
+    let fault = handed_on c.from_residual-in_err-write_ending.result c.in_err-write_ending.field-0.0 Invalid
+    c.from_residual-in_err-write_ending.ensures.1 e in
+    c.in_err-write_ending.ensures.invalid (ap Err fault)
+    (ending_sequential c.args.choices.now ended.tested.now (choices_in ended.ending) c.of-ended.ensures.whole
+    sequential)
+
+pub write_ending-returns-in-Always-clause-invalid : goal.write_ending-returns-in-Always-clause-invalid
+write_ending-returns-in-Always-clause-invalid t c = λ e sequential.
+    c.write_taken.ensures.invalid e
+    (subst (λ x. AreSequential (Mark mark.If) (all_choices (choices_in x))) c.in-Always.is sequential).1
+
+pub write_ending-returns-in_ok-write_open-in-Opens-clause-invalid :
+    goal.write_ending-returns-in_ok-write_open-in-Opens-clause-invalid
+write_ending-returns-in_ok-write_open-in-Opens-clause-invalid t c = λ e sequential.
+    c.write_taken-in-Opens.ensures.invalid e
+    (subst (λ x. AreSequential (Mark mark.If) (all_choices (choices_in x))) c.in-Opens.is sequential).1
+
+pub write_ending-returns-in_err-write_open-in-Opens-clause-invalid :
+    goal.write_ending-returns-in_err-write_open-in-Opens-clause-invalid
+write_ending-returns-in_err-write_open-in-Opens-clause-invalid t c = λ e sequential.
+    let fault = handed_on c.from_residual-in_err-write_open-in-Opens.result c.in_err-write_open-in-Opens.field-0.0 Invalid
+    c.from_residual-in_err-write_open-in-Opens.ensures.1 e in
+    c.in_err-write_open-in-Opens.ensures.invalid (ap Err fault)
+    (subst (λ x. AreSequential (Mark mark.If) (all_choices (choices_in x))) c.in-Opens.is sequential).0.1
+
+pub write_taken-returns-in_err-write-clause-invalid : goal.write_taken-returns-in_err-write-clause-invalid
+write_taken-returns-in_err-write-clause-invalid t c = λ e sequential.
+    let x = c.args.choice.now in
+    let fault = handed_on c.from_residual.result c.in_err-write.field-0.0 Invalid
+    c.from_residual.ensures.1 e in
+    c.in_err-write.ensures.invalid (ap Err fault)
+    (subst (λ y. IsSequentialComponent (Mark mark.If) y) (sym (choice_seen x)) sequential)
