@@ -7,7 +7,7 @@ ghost use Rattle.code_pieces.specs.Laid.{AreTooLarge};
 ghost use Rattle.module_format.specs.Contents.{Contents};
 ghost use Rattle.module_format.specs.Keeping.{Format};
 ghost use Rattle.certified_code.specs.CertifiedModules.{Certifies, BreaksARule, AreCertified, AreRefused};
-ghost use Rattle.certified_code.specs.CertifiedModules.{IsCertifiedModule};
+ghost use Rattle.certified_code.specs.CertifiedModules.{IsCertifiedModule, IsUncertified};
 
 use certificate::Module;
 use code_pieces::{Piece, module_of};
@@ -75,6 +75,7 @@ pub fn certified_module_of(
 ) -> Result<Vec<u8>, GenFault>
     ensures ok { IfOk result (λ v. IsCertifiedModule (pieces_of pieces.items) labels links v.items) }
     ensures limit { result ≡ Err GenFault.Limit → AreTooLarge (apart (pieces_of pieces.items)) labels links }
+    ensures invalid { result ≡ Err GenFault.Invalid → IsUncertified (pieces_of pieces.items) labels links }
 {
     let bytes = module_of(alloc, pieces, labels, links)?;
     certify(alloc, &bytes)?;

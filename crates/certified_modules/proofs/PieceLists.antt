@@ -11,6 +11,7 @@ use Rattle.code_pieces.specs.Pieces.{TableAddress, Row, Place, Within, Par}
 use Rattle.code_pieces.specs.Pars.{in_root}
 use Rattle.code_pieces.specs.Placing.{label_in}
 use Rattle.code_pieces.specs.Laying.{workspace_behind, at_row_behind, pars_of}
+use Rattle.code_pieces.proofs.AllOfPieces.{all_both}
 use Rattle.placed_code.specs.LaidCode.{item_count, workspace_after, labels_in}
 use Rattle.placed_code.specs.NumbersCover.{head_of, heads_in}
 use Rattle.placed_code.proofs.PiecesLie.{differ_rest, absent_rest}
@@ -18,21 +19,6 @@ use Rattle.certified_lines.specs.StraightRules.{Setting, Told, FallOn, done, nex
 use Rattle.certified_modules.specs.Passing.{Passage, OpenLabel, PassOn, none, both, straight, stops, places, jumps}
 use Rattle.certified_modules.specs.Passing.{tests}
 use Rattle.certified_modules.specs.Passing.{closes, loops}
-
--- ---- what holds of all pieces
-
-pub all_both : (P : Piece → Type 0) (ps qs : List Piece) → AllByRecursion P ps → AllByRecursion P qs
-    → AllByRecursion P (ps ++ qs)
-all_both P [] qs first second = second
-all_both P (p ∷ ps) qs first second = (first.0, all_both P ps qs first.1 second)
-
-pub all_front : (P : Piece → Type 0) (ps qs : List Piece) → AllByRecursion P (ps ++ qs) → AllByRecursion P ps
-all_front P [] qs all = tt
-all_front P (p ∷ ps) qs all = (all.0, all_front P ps qs all.1)
-
-pub all_back : (P : Piece → Type 0) (ps qs : List Piece) → AllByRecursion P (ps ++ qs) → AllByRecursion P qs
-all_back P [] qs all = all
-all_back P (p ∷ ps) qs all = all_back P ps qs all.1
 
 -- ---- one process
 

@@ -34,6 +34,7 @@ use Rattle.code_pieces.specs.Laid.{needs_in}
 use Rattle.code_pieces.specs.LaidModule.{Says, laid_module}
 use Rattle.code_pieces.specs.Laying.{operand_at}
 use Rattle.code_pieces.specs.DraftedRows.{said_row}
+use Rattle.code_pieces.proofs.AllOfPieces.{all_first, all_last}
 use Rattle.placed_code.specs.LaidCode.{LaidCode, Fetches, Lie, more, IsAt, laid_code, item_count, workspace_after}
 use Rattle.placed_code.specs.LaidCode.{LabelsArePlacedOnce, Reaches, StaysAt, labels_in}
 use Rattle.placed_code.specs.LaidCode as laid
@@ -61,7 +62,7 @@ use Rattle.certified_modules.specs.RootRows.{root_passage, root_row}
 use Rattle.certified_modules.specs.Ways.{IsIn, IsPassed, Passes, over, on}
 use Rattle.certified_lines.proofs.Walking.{loaded_falls, filled_falls, place_falls}
 use Rattle.certified_modules.proofs.RootRows.{rows_say_their_pieces, implied_rows_are_below, entered_rows_are_below}
-use Rattle.certified_modules.proofs.PieceLists.{IsAlone, all_front, all_back, workspace_alone, no_pars, row_behind}
+use Rattle.certified_modules.proofs.PieceLists.{IsAlone, workspace_alone, no_pars, row_behind}
 use Rattle.certified_modules.proofs.PieceLists.{row_behind_both, no_row_last, is_earlier, is_equal, is_later, split}
 use Rattle.certified_modules.proofs.PieceLists.{labels_front, heads_absent, placed_once}
 use Rattle.certified_modules.proofs.Ways.{ways_follow}
@@ -172,13 +173,13 @@ module _ (ps : List Piece) (labels : ℕ) (links bytes : List ℕ) (says : Says 
       subst (λ (qs : List Piece). AllByRecursion (StaysAt 0) qs) whole stays in
       let own : AllByRecursion IsAlone (front ++ p ∷ rest) =
       subst (λ (qs : List Piece). AllByRecursion IsAlone qs) whole alone in
-      let place = workspace_alone front in_root (all_front IsAlone front (p ∷ rest) own) in
+      let place = workspace_alone front in_root (all_first IsAlone front (p ∷ rest) own) in
       let lie : Lie c (at_of front) (p ∷ []) (at_of (front ++ p ∷ [])) =
       pieces_lie ps labels links bytes says front (p ∷ []) 0 once (record {
         rest = rest;
         whole = whole ∙ sym (append_assoc front (p ∷ []) rest);
         workspace = ap (λ w. w.depth) place;
-        stays = ((all_back (StaysAt 0) front (p ∷ rest) all).0, tt);
+        stays = ((all_last (StaysAt 0) front (p ∷ rest) all).0, tt);
       }) in
       elim lie [ more there laid.none ↦ there ]
 
@@ -189,7 +190,7 @@ module _ (ps : List Piece) (labels : ℕ) (links bytes : List ℕ) (says : Says 
   row_there front l entries rest whole =
       let own : AllByRecursion IsAlone (front ++ Row l entries ∷ rest) =
       subst (λ (qs : List Piece). AllByRecursion IsAlone qs) whole alone in
-      let place = workspace_alone front in_root (all_front IsAlone front (Row l entries ∷ rest) own) in
+      let place = workspace_alone front in_root (all_first IsAlone front (Row l entries ∷ rest) own) in
       let at = lies front (Row l entries) rest whole in
       let is : c.labels l ≡ at_of front = at.1 ∙ sym at.0 in
       let found = rows_are_found ps labels links bytes says 0 front l entries once
@@ -467,7 +468,7 @@ module _ (ps : List Piece) (labels : ℕ) (links bytes : List ℕ) (says : Says 
       let own : AllByRecursion HasValues (front ++ p ∷ rest) =
       subst (λ (qs : List Piece). AllByRecursion HasValues qs) whole filled in
       let leads = tables_lead ps labels links bytes says front rest values whole
-      (all_back HasValues front (p ∷ rest) own).0 at to (at_small (front ++ p ∷ [])) loads in
+      (all_last HasValues front (p ∷ rest) own).0 at to (at_small (front ++ p ∷ [])) loads in
       let one : Told = with_pushed (known_constant d) s in
       let two : Told = with_pushed (table_known g.setting values) s in
       let left : ℕ = number - (loads.middle - at) in

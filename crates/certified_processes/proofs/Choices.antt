@@ -17,6 +17,7 @@ use Rattle.local_rules.specs.WordRules.{number_in}
 use Rattle.code_pieces.specs.declared.operations.TheConstants.{STOP_PROCESS}
 use Rattle.code_pieces.specs.declared.piece.RowEntry.{RowEntry}
 use Rattle.code_pieces.specs.Pieces.{Code, Jump, JumpUnless, Piece, closed_by, operates}
+use Rattle.code_pieces.proofs.AllOfPieces.{all_first, all_last}
 use Rattle.line_pieces.specs.Actions.{forgets, may_show, test_code}
 use Rattle.line_pieces.specs.Declarations.{Frame, facts_in}
 use Rattle.line_pieces.specs.Expressions.{expression_code}
@@ -37,7 +38,7 @@ use Rattle.certified_scopes.proofs.Indices.{indices_stay}
 use Rattle.certified_scopes.proofs.Settled.{moved_scopes_are_settled}
 use Rattle.certified_scopes.proofs.Within.{scopes_lie_within}
 use Rattle.meant_processes.specs.Places.{AllFit, FitsIn}
-use Rattle.meant_processes.proofs.CodeParts.{all_first, all_last, before_is, closed_is, then_is, written_is}
+use Rattle.meant_processes.proofs.CodeParts.{before_is, closed_is, then_is, written_is}
 use Rattle.certified_processes.specs.Places.{Coded, bare_scene, scene, scene_at}
 use Rattle.certified_processes.proofs.There.{IsSound, IsThere}
 use Rattle.certified_processes.specs.ProcessesPass.{PassesTo}

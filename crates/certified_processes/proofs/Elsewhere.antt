@@ -18,6 +18,7 @@ use Rattle.scalar_ranges.specs.Entries.{Array, Entry, Meaning, meaning_in}
 use Rattle.scalar_ranges.specs.Fronts.{Front, count_of, front_in}
 use Rattle.code_pieces.specs.declared.operations.TheConstants.{INPUT, OUTPUT}
 use Rattle.code_pieces.specs.Pieces.{Code, Piece, counted, points, stores, word_after, written}
+use Rattle.code_pieces.proofs.AllOfPieces.{all_first, all_last}
 use Rattle.line_pieces.specs.Actions.{KnownElement, NoTarget, OtherElement, OwnWord, Target, action_code, assign_code}
 use Rattle.line_pieces.specs.Actions.{by_number, cleaned, element_target, exchange, input_code, message_code}
 use Rattle.line_pieces.specs.Actions.{output_code}
@@ -36,7 +37,7 @@ use Rattle.line_pieces.specs.Homes as home
 use Rattle.line_pieces.specs.Homes.{Block, Home, Link, Nowhere, Passed, Word, home_of}
 use Rattle.certified_actions.specs.Actions.{GoesOn}
 use Rattle.meant_processes.specs.Places.{AllFit, FitsIn}
-use Rattle.meant_processes.proofs.CodeParts.{all_first, all_last, written_is}
+use Rattle.meant_processes.proofs.CodeParts.{written_is}
 use Rattle.certified_processes.specs.Places.{Coded}
 
 module _ (p : Coded) (few : p.program.words ≤ MAX_DATA_WORDS) where

@@ -25,6 +25,7 @@ use Rattle.usage_checks.proofs.ProcessesGoWell.{declared_of_main}
 use Rattle.usage_checks.proofs.RangesStay.{declared_long}
 use Rattle.code_pieces.specs.declared.words.TheConstants.{GREATEST_WORD}
 use Rattle.code_pieces.specs.Pieces.{counted, word_after}
+use Rattle.code_pieces.proofs.AllOfPieces.{all_first, all_last}
 use Rattle.line_pieces.specs.Homes as home
 use Rattle.line_pieces.specs.Homes.{Block, Home, Nowhere}
 use Rattle.line_pieces.specs.Declarations.{Frame, channels_in, declaration_code, declared, home_for}
@@ -38,7 +39,6 @@ use Rattle.certified_scopes.specs.Settled.{AreOrdered, IsOfIndex, IsSettled}
 use Rattle.certified_scopes.proofs.EachName.{each_with, get_front}
 use Rattle.certified_scopes.proofs.Settled.{declarations_are_settled, moved_scopes_are_settled}
 use Rattle.meant_processes.specs.Places.{AllFit, AreHoused, AreLinked, FitsIn, IsHoused, IsLinked, IsOwn}
-use Rattle.meant_processes.proofs.CodeParts.{all_first, all_last}
 use Rattle.meant_processes.proofs.Housed.{declared_housed, housed_more}
 use Rattle.meant_processes.proofs.Linked.{declared_linked}
 use Rattle.meant_processes.proofs.Placing.{declared_front, got_below, home_behind}

@@ -28,6 +28,7 @@ use Rattle.usage_checks.specs.TypedRanges.{AreInTypes, IsInType}
 use Rattle.usage_checks.proofs.RangesStay.{body_ended, ranges_stay}
 use Rattle.usage_checks.proofs.TypedMoves.{declared_typed, typed_widen}
 use Rattle.code_pieces.specs.Pieces.{Code, Piece, Row, counted, closed_by, stores, word_after}
+use Rattle.code_pieces.proofs.AllOfPieces.{all_first, all_last}
 use Rattle.line_pieces.specs.Declarations.{facts_in}
 use Rattle.code_generator.specs.Processes.{Site, has_scalar, loop_code, loop_end, loop_start, no_loop}
 use Rattle.code_generator.specs.Processes.{process_code, row_of}
@@ -43,7 +44,7 @@ use Rattle.certified_scopes.proofs.Settled.{indices_have_turns}
 use Rattle.certified_scopes.proofs.Within.{scopes_lie_within}
 use Rattle.line_pieces.specs.Homes.{count_in}
 use Rattle.meant_processes.specs.Places.{AllFit, FitsIn, surroundings}
-use Rattle.meant_processes.proofs.CodeParts.{all_first, all_last, before_is, closed_is, written_is}
+use Rattle.meant_processes.proofs.CodeParts.{before_is, closed_is, written_is}
 use Rattle.certified_processes.specs.Places.{Coded, IsInRoot, bare_scene, scene}
 use Rattle.certified_processes.proofs.There.{IsThere}
 use Rattle.certified_processes.specs.ProcessesPass.{PassesTo}

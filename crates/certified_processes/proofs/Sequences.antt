@@ -29,6 +29,7 @@ use Rattle.usage_checks.proofs.RangesTyped.{ranges_are_typed}
 use Rattle.usage_checks.proofs.TypedMoves.{typed_left}
 use Rattle.code_pieces.specs.Pieces as pieces
 use Rattle.code_pieces.specs.Pieces.{Code}
+use Rattle.code_pieces.proofs.AllOfPieces.{all_first, all_last}
 use Rattle.line_pieces.specs.Declarations.{declaration_code, declared}
 use Rattle.line_pieces.specs.Homes.{Home}
 use Rattle.code_generator.specs.Processes.{Site, at_place, component_code, components_code, construct_code}
@@ -44,7 +45,7 @@ use Rattle.certified_scopes.proofs.Kept.{declared_names_are_held, left_scopes_ar
 use Rattle.certified_scopes.proofs.ProcessesKeep.{indices_are_kept}
 use Rattle.certified_scopes.proofs.TurnsWithin.{processes_leave_scopes_settled}
 use Rattle.meant_processes.specs.Places.{AllFit, FitsIn, standing, surroundings}
-use Rattle.meant_processes.proofs.CodeParts.{all_first, all_last, before_is, then_is, written_is}
+use Rattle.meant_processes.proofs.CodeParts.{before_is, then_is, written_is}
 use Rattle.certified_processes.specs.Places.{Coded, IsInRoot, bare_scene, scene, scene_at}
 use Rattle.certified_processes.proofs.There.{IsThere}
 use Rattle.certified_processes.specs.ProcessesPass.{PassesTo, left_by}

@@ -24,6 +24,7 @@ use Rattle.program_meaning.specs.Sequential.{AreSequential, IsSequential, IsSequ
 use Rattle.program_meaning.specs.Sequential.{IsSequentialComponent, IsSequentialConstruct}
 use Rattle.usage_checks.specs.AfterProcesses.{after_body, after_components, begun, begun_body, chosen, ended}
 use Rattle.code_pieces.specs.Pieces.{Code, Jump, JumpUnless, Piece, before, closed_by, then_code}
+use Rattle.code_pieces.proofs.AllOfPieces.{all_both}
 use Rattle.line_pieces.specs.Actions.{forgets, may_show, test_code}
 use Rattle.line_pieces.specs.Declarations.{Frame, channels_in, declaration_code, declared, home_for, with_home}
 use Rattle.line_pieces.specs.Declarations.{with_names, with_words, words_in}
@@ -37,7 +38,6 @@ use Rattle.code_generator.specs.Processes.{in_each_turn, in_loop, is_true, line_
 use Rattle.code_generator.specs.Processes.{no_loop, opening, placed, placed_choices, process_code, repeated_seq, row_of}
 use Rattle.code_generator.specs.Processes.{taken_code, tested_code, times, turn_begun, value_or_zero}
 use Rattle.code_generator.specs.Processes.{with_declaration, with_ending, with_opening}
-use Rattle.valid_code.proofs.ScopesInTurn.{all_both}
 use Rattle.certified_modules.specs.Certifying.{HasValues}
 use Rattle.certified_programs.proofs.FullLines.{AreFull, HaveValues, IsFull, assign_is, declaration_is, expression_is}
 use Rattle.certified_programs.proofs.FullLines.{forgets_is, input_is, loop_start_is, output_is}

@@ -1,30 +1,29 @@
 -- The code of a sequential program that breaks no rule addresses no empty table.
-use Rattle.std.proofs.Common.{List, [], ◌∷◌, None, Some, refl, sym, subst, inl}
+use Rattle.std.proofs.Common.{List, [], ◌∷◌, None, Some, sym, subst}
 use Rattle.occam_parser.specs.Lines as lines
 use Rattle.occam_parser.specs.Lines.{Formal}
 use Rattle.scalar_ranges.specs.Entries.{Entry}
 use Rattle.scalar_ranges.specs.Environments.{Environment}
 use Rattle.program_meaning.specs.Meaning.{port_for}
-use Rattle.usage_checks.specs.ItemRules.{around_in, outermost}
+use Rattle.usage_checks.specs.ItemRules.{around_in}
 use Rattle.usage_checks.specs.Reaching.{in_procedure, to_body}
 use Rattle.code_pieces.specs.declared.operations.TheConstants.{STOP_PROCESS}
 use Rattle.code_pieces.specs.Pieces.{Piece, operates}
+use Rattle.code_pieces.proofs.AllOfPieces.{all_both}
 use Rattle.line_pieces.specs.Declarations.{Frame, home_for}
 use Rattle.line_pieces.specs.Homes.{Nowhere}
 use Rattle.code_generator.specs.Calls.{where_called}
 use Rattle.code_generator.specs.Processes.{process_code}
-use Rattle.code_generator.specs.Programs.{home_of_port, in_main, no_frame}
+use Rattle.code_generator.specs.Programs.{home_of_port, in_main}
 use Rattle.meant_processes.proofs.CodeParts.{closed_is}
 use Rattle.meant_programs.specs.Mains.{before_main}
-use Rattle.meant_programs.proofs.Globals.{last_is_main}
 use Rattle.meant_programs.proofs.MainPlaces.{link_homes}
-use Rattle.valid_code.proofs.ScopesInTurn.{all_both}
+use Rattle.meant_programs.proofs.Walk.{FoundFrom, GoesOn, find_main}
 use Rattle.certified_modules.specs.Certifying.{HasValues}
 use Rattle.certified_programs.specs.Tables.{NoTableIsEmpty}
 use Rattle.certified_programs.proofs.FullLines.{AreFull, HaveValues, IsFull}
 use Rattle.certified_programs.proofs.FullProcesses.{Full, constant_full, homes_more, process_full}
 use Rattle.certified_programs.proofs.Texts.{declaration_text, process_texts}
-use Rattle.certified_programs.proofs.Walk.{FoundFrom, GoesOn, find}
 
 -- no home before main is an empty table
 abbrev Holds : Frame → List Entry → Environment → Type 0
@@ -52,15 +51,7 @@ no_table_is_empty [] code none sequential has_words is = absurd sequential
 no_table_is_empty (item ∷ rest) code none sequential has_words is =
     let items = item ∷ rest in
     let found : FoundFrom items none Holds goes_on item rest [] code =
-    find items none Holds goes_on outermost item rest [] [] no_frame code (record {
-      unbroken = λ f x. none f (inl x);
-      comes = λ o x h. h;
-      main = last_is_main item rest none;
-      sequential = sequential;
-      has_words = has_words;
-      truth = record { holds = record { meets = tt; typed = tt }; global = tt; blocks = refl; counted = refl };
-      holds = tt;
-    }) is in
+    find_main item rest none Holds goes_on code sequential has_words is tt in
     let o = found.outside in
     let p = found.procedure in
     let w = where_called found.callees (around_in o) _ in

@@ -1,46 +1,32 @@
 -- Main is found, with the scope before it: memory carries its names, and it says nothing of words.
-use Rattle.std.proofs.Common.{◌≡◌, ℕ, true, List, [], ◌∷◌, Some, inl, refl, sym, ap, subst}
-use Rattle.std.proofs.Common.{arith, ◌∙◌, slice_get}
-use Rattle.std.proofs.lemmas.List.{length-append}
+use Rattle.std.proofs.Common.{◌≡◌, ℕ, true, List, [], ◌∷◌, Some, refl, ap, arith, ◌∙◌, slice_get}
 use Rattle.std.specs.List.{AllByRecursion}
-use Rattle.std.specs.Prelude.{pos}
 use Rattle.machine_state.specs.Memory.{Memory}
-use Rattle.module_format.specs.Stack.{of_empty}
 use Rattle.occam_parser.specs.declared.tree.ValueType.{ValueType}
 use Rattle.occam_parser.specs.Lines as lines
 use Rattle.occam_parser.specs.Lines.{Value}
 use Rattle.occam_parser.specs.Blocks.{ProgramItem}
 use Rattle.occam_parser.specs.Words.{declaration_has_words}
-use Rattle.scalar_ranges.specs.declared.scope.ArrayKind.TheVariants as array
 use Rattle.scalar_ranges.specs.Entries as entries
 use Rattle.scalar_ranges.specs.Entries.{Meaning, Entry}
 use Rattle.scalar_ranges.specs.Environments.{Nothing, Environment}
-use Rattle.scalar_ranges.specs.MoveLaws.{shape}
 use Rattle.program_uses.specs.Declaring.{add, add_declaration}
 use Rattle.program_meaning.specs.GoingWell.{IsTrueIn}
 use Rattle.program_meaning.specs.Storing.{bind, declare}
 use Rattle.usage_checks.specs.Holding.{DeclarationHolds}
-use Rattle.usage_checks.specs.ItemRules.{outermost}
 use Rattle.usage_checks.specs.TypedRanges.{AreInTypes}
-use Rattle.usage_checks.proofs.ProcessesGoWell.{known_declaration}
 use Rattle.usage_checks.proofs.TypedMoves.{declared_typed}
 use Rattle.code_pieces.specs.Pieces.{Piece}
+use Rattle.code_pieces.proofs.AllOfPieces.{all_both}
 use Rattle.line_pieces.specs.Homes.{Nowhere}
 use Rattle.line_pieces.specs.Declarations.{Frame, declared, with_home, home_for}
 use Rattle.code_generator.specs.Programs.{no_frame}
-use Rattle.placed_code.specs.StraightPieces as pieces
-use Rattle.placed_code.specs.StraightPieces.{Footing, LeadOn, done}
-use Rattle.meant_lines.specs.Carrying.{Carries}
-use Rattle.meant_lines.specs.Opening.{Opened}
-use Rattle.meant_lines.proofs.Leaving.{wordless_names_are_carried}
-use Rattle.meant_lines.proofs.Opening.{declarations_are_carried}
-use Rattle.meant_programs.specs.Mains.{IsFixed, grounded}
-use Rattle.meant_programs.proofs.Globals.{IsGlobal, globals_own, last_found, last_is_main}
-use Rattle.meant_programs.proofs.Items.{Carried}
-use Rattle.meant_programs.proofs.MainPlaces.{all_own}
+use Rattle.placed_code.specs.StraightPieces.{Footing}
+use Rattle.meant_programs.proofs.Globals.{last_found}
+use Rattle.meant_programs.proofs.Items.{Carried, constant_carried, main_found, procedure_carried}
+use Rattle.meant_programs.proofs.Walk.{FoundFrom, GoesOn, find_main}
 use Rattle.valid_code.specs.Numbers.{HasNumbers, HaveNumbers}
 use Rattle.valid_code.proofs.MovesOfNumbers.{moves_keep_numbers}
-use Rattle.valid_code.proofs.ScopesInTurn.{all_both}
 use Rattle.certified_lines.specs.Scopes.{Scene}
 use Rattle.certified_scopes.specs.Kept.{at_homes}
 use Rattle.certified_scopes.specs.Settled.{AreOrdered, HasNoWord, IsFounded, IsOrdered}
@@ -48,7 +34,7 @@ use Rattle.certified_scopes.proofs.Kept.{declared_names_are_held, new_names_are_
 use Rattle.certified_scopes.proofs.Settled.{beginnings_are_settled, declarations_are_settled}
 use Rattle.certified_scopes.proofs.Settled.{wordless_names_are_settled}
 use Rattle.certified_programs.specs.Mains.{MainIsSettled, SaysNothing}
-use Rattle.certified_programs.proofs.Walk.{FoundFrom, GoesOn, find}
+
 
 -- ---- ranges
 
@@ -64,20 +50,6 @@ ordered_here (entries.Procedure number) has = tt
 all_ordered : (es : List Entry) → HaveNumbers es → AreOrdered es
 all_ordered [] have = tt
 all_ordered (e ∷ es) have = (ordered_here e.meaning have.0, all_ordered es have.1)
-
-fixed_here : (m : Meaning) → IsGlobal m → IsFixed m
-fixed_here (entries.Constant type value) is = tt
-fixed_here (entries.Array array.Table type size range) is = tt
-fixed_here (entries.Array array.Variable type size range) is = absurd is
-fixed_here (entries.Array array.Value type size range) is = absurd is
-fixed_here (entries.Procedure number) is = tt
-fixed_here (entries.Scalar kind type range) is = absurd is
-fixed_here (entries.Channel type) is = absurd is
-fixed_here (entries.Channels type size) is = absurd is
-
-all_fixed : (es : List Entry) → AllByRecursion (λ e. IsGlobal e.meaning) es → AllByRecursion (λ e. IsFixed e.meaning) es
-all_fixed [] all = tt
-all_fixed (e ∷ es) all = (fixed_here e.meaning all.0, all_fixed es all.1)
 
 -- ---- what scopes say
 
@@ -145,100 +117,35 @@ module _ (g : Scene) (founded : IsFounded g) where
 
 -- ---- what memory carries
 
--- the code of nothing changes nothing
-nothing_leads : (w : Footing) (h k : pieces.Held) → LeadOn w [] h k → h ≡ k
-nothing_leads w h k done = refl
-
 module _ (footing : Footing) (words : ℕ) (whole : List Piece) (m : Memory) (g : Scene) (founded : IsFounded g) where
   -- memory carries the names, and their scope says nothing of words
   record IsReady (f : Frame) (es : List Entry) (env : Environment) : Type 0 where
     carried : Carried footing words whole m f es env
     quiet : IsQuiet g f es
 
-  abbrev held : pieces.Held
-  held = record { stack = of_empty (pos 0); memory = m }
-
-  procedure_ready : (f : Frame) (es : List Entry) (env : Environment) (name : List ℕ) (n : ℕ) → IsTrueIn es env
-      → IsReady f es env
-      → IsReady (with_home Nowhere f) (add name (entries.Procedure n) es) (bind name Nothing env)
-  procedure_ready f es env name n truth ready =
-      let before = ready.carried in
-      record {
-        carried = record {
-          carries = wordless_names_are_carried (grounded footing words whole f.homes) f.top es env name
-              (entries.Procedure n) Nothing Nowhere m truth.meets before.long (omega arith) (omega arith) tt
-              before.carries;
-          long = let added = length-append f.homes (Nowhere ∷ []) in let same = before.long in
-              omega (arith, added, same);
-          top = before.top;
-        };
-        quiet = procedure_quiet g founded f es name n ready.quiet;
-      }
-
-  constant_ready : (f : Frame) (es : List Entry) (env inner : Environment) (c : lines.Constant) → IsTrueIn es env
-      → DeclarationHolds es (lines.Constants c) → declaration_has_words (lines.Constants c) ≡ true
-      → declare (lines.Constants c) env ≡ Some inner → IsReady f es env
-      → IsReady (declared es (lines.Constants c) f) (add_declaration (lines.Constants c) es) inner
-  constant_ready f es env inner c truth holds has_words declares ready =
-      let d = lines.Constants c in
-      let before = ready.carried in
-      let opened : Opened (grounded footing words whole f.homes) f es d inner held =
-      declarations_are_carried (grounded footing words whole f.homes) f es env inner d held truth
-      (known_declaration es d holds) has_words declares before.long tt before.carries in
-      record {
-        carried = record {
-          carries = subst (λ (h : pieces.Held). Carries (grounded footing words whole (declared es d f).homes)
-              (declared es d f).top (add_declaration d es) inner h.memory)
-              (sym (nothing_leads footing held opened.after opened.leads)) opened.carries;
-          long = let added = length-append f.homes (home_for es c.value_type c.value ∷ []) in let same = before.long in
-              omega (arith, added, same);
-          top = before.top;
-        };
-        quiet = constant_quiet g founded f es c holds has_words ready.quiet;
-      }
-
   goes_on : GoesOn IsReady
-  goes_on = record { constants = constant_ready; procedures = procedure_ready }
+  goes_on = record {
+    constants = λ f es env inner c truth holds has_words declares ready. record {
+      carried = constant_carried footing words whole m f es env inner c truth holds has_words declares ready.carried;
+      quiet = constant_quiet g founded f es c holds has_words ready.quiet;
+    };
+    procedures = λ f es env name n truth ready. record {
+      carried = procedure_carried footing words whole m f es env name n truth ready.carried;
+      quiet = procedure_quiet g founded f es name n ready.quiet;
+    };
+  }
 
 pub main_is_settled : MainIsSettled
 main_is_settled [] code footing words whole m g founded none sequential has_words is carries = absurd sequential
 main_is_settled (item ∷ rest) code footing words whole m g founded none sequential has_words is carries =
     let items = item ∷ rest in
     let Ready = IsReady footing words whole m g founded in
-    let found : FoundFrom items none Ready (goes_on footing words whole m g founded) item rest [] code =
-    find items none Ready (goes_on footing words whole m g founded) outermost item rest [] [] no_frame code (record {
-      unbroken = λ f x. none f (inl x);
-      comes = λ o x h. h;
-      main = last_is_main item rest none;
-      sequential = sequential;
-      has_words = has_words;
-      truth = record { holds = record { meets = tt; typed = tt }; global = tt; blocks = refl; counted = refl };
-      holds = record { carried = record { carries = carries; long = refl; top = refl }; quiet = none_quiet g founded };
-    }) is in
+    let on = goes_on footing words whole m g founded in
+    let found : FoundFrom items none Ready on item rest [] code =
+    find_main item rest none Ready on code sequential has_words is
+    (record { carried = record { carries = carries; long = refl; top = refl }; quiet = none_quiet g founded }) in
     record {
-      found = record {
-        outside = found.outside;
-        procedure = found.procedure;
-        callees = found.callees;
-        frame = found.frame;
-        names = found.names;
-        comes = found.comes;
-        runs = found.runs;
-        is = found.is;
-        holds = found.truth.holds;
-        own = subst (λ (T : Type 0). T) (all_own (shape found.outside.known.entries))
-            (globals_own found.outside.known.entries found.truth.global);
-        fixed = all_fixed found.outside.known.entries found.truth.global;
-        blocks = found.truth.blocks;
-        counted = found.truth.counted;
-        long = found.holds.carried.long;
-        top = found.holds.carried.top;
-        carries = found.holds.carried.carries;
-        named = found.named;
-        links = found.links;
-        sequential = found.sequential;
-        has_words = found.has_words;
-      };
+      found = main_found footing words whole m Ready on (λ f es env ready. ready.carried) item rest none code found;
       last = ap (slice_get items) (omega arith) ∙ last_found item rest
           ∙ ap (λ (x : ProgramItem). Some x) found.last;
       scope = found.holds.quiet.says;

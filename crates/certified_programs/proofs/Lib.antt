@@ -1,6 +1,5 @@
 pub mod TableRows
 pub mod Foundations
-pub mod Walk
 pub mod Items
 pub mod MainScope
 pub mod Mains

@@ -27,6 +27,7 @@ use Rattle.usage_checks.specs.MainRules.{is_link_as, are_links}
 use Rattle.code_pieces.specs.Laying.{pars_of}
 use Rattle.code_pieces.specs.LaidModule.{Arrangement, laid_module}
 use Rattle.code_pieces.specs.Pieces.{Piece}
+use Rattle.code_pieces.proofs.AllOfPieces.{all_both}
 use Rattle.line_pieces.specs.Homes.{Home}
 use Rattle.line_pieces.specs.Declarations.{Frame, with_home}
 use Rattle.code_generator.specs.Programs.{home_of_port, link_of, with_links}
@@ -34,7 +35,6 @@ use Rattle.placed_code.proofs.OneProcess.{root_has_its_links}
 use Rattle.meant_processes.specs.Places.{AreLinked, IsLink, IsLinked, Program}
 use Rattle.meant_programs.proofs.Globals.{link_means}
 use Rattle.meant_programs.proofs.MainPlaces.{link_homes}
-use Rattle.valid_code.proofs.ScopesInTurn.{all_both}
 use Rattle.certified_lines.specs.Scopes.{AreKnown, IsHoused, Scene}
 use Rattle.certified_scopes.specs.Kept.{at_homes}
 use Rattle.certified_scopes.specs.Settled.{HasNoWord}

@@ -16,12 +16,13 @@ use Rattle.code_pieces.specs.declared.operations.TheConstants.{STOP_PROCESS}
 use Rattle.code_pieces.specs.Pieces.{Code, Piece, constant, operates}
 use Rattle.code_pieces.specs.Laying.{apart, apart_from, at_row_behind, is_row, pars_of, words_taken}
 use Rattle.code_pieces.specs.LaidModule.{Says}
+use Rattle.code_pieces.proofs.AllOfPieces.{all_first}
 use Rattle.line_pieces.specs.Homes.{Block, Home}
 use Rattle.code_generator.specs.Processes.{Site, process_code}
 use Rattle.placed_code.specs.LaidCode.{LaidCode, laid_code}
 use Rattle.meant_lines.proofs.PartsStand.{code_stores_within, parts_stand}
 use Rattle.meant_processes.specs.Places.{AllFit, FitsIn, ground, surroundings}
-use Rattle.meant_processes.proofs.CodeParts.{all_first, closed_is}
+use Rattle.meant_processes.proofs.CodeParts.{closed_is}
 use Rattle.meant_programs.proofs.MainPlaces.{main_placed, main_program, main_site}
 use Rattle.certified_scopes.specs.Settled.{HasNoWord}
 use Rattle.certified_modules.specs.Certifying.{nothing_told}

@@ -1,2 +1,4 @@
 pub mod Generated
 pub mod Refused
+pub mod LinksFit
+pub mod NeverInvalid

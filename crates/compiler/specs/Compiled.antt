@@ -64,11 +64,11 @@ abbrev pub IsTooLarge : List ProgramItem → Type 0
 IsTooLarge items =
     is_too_much_to_write items ≡ false → (code : Code) × (code_of items ≡ Some code) × IsMuch items code
 
--- Why `generate` makes nothing of a program: memory ran out, what was written would not be certified, or it is too much
--- or above a limit. If that is told of a sequential program, it is so.
+-- Why `generate` makes nothing of a program: memory ran out, what was written would not be certified, which never is so
+-- of a sequential program, or it is too much or above a limit. If that is said of a sequential program, it is so.
 abbrev pub IsUngenerated : GenFault → List ProgramItem → Type 0
 IsUngenerated generation.Memory items = ⊤
-IsUngenerated generation.Invalid items = ⊤
+IsUngenerated generation.Invalid items = IsSequentialProgram items → ⊥
 IsUngenerated generation.Limit items = IsSequentialProgram items → IsTooLarge items
 
 -- ---- sources

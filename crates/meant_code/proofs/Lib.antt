@@ -1,3 +1,4 @@
+pub mod LinesHave
 pub mod StraightLines
 pub mod LabelLists
 pub mod OwnPieces

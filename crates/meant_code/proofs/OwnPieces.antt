@@ -8,7 +8,7 @@ use Rattle.meant_code.specs.OwnCode.{AreOwn}
 use Rattle.meant_code.proofs.LabelLists.{times_both, labels_both, times_in_both, none_once, one_once, both_once}
 use Rattle.meant_code.proofs.LabelLists.{ordered_once, Among, lead_more, lead_both, no_labels, straight_are_plain}
 use Rattle.meant_code.proofs.LabelLists.{straight_lead}
-use Rattle.meant_code.proofs.StraightLines.{counted_is}
+use Rattle.meant_code.proofs.LinesHave.{counted_is}
 
 pub plain_both : (ps qs : List Piece) → ArePlain ps → ArePlain qs → ArePlain (ps ++ qs)
 plain_both [] qs first second = second

@@ -1,528 +1,78 @@
 -- The code of expressions, actions and declarations is straight: it places no label and jumps nowhere.
-use Rattle.std.proofs.Common.{ℕ, zero, suc, ◌+◌, ℤ, pos, Bool, true, false, cond, List, [], ◌∷◌, ◌++◌, Option, Some}
-use Rattle.std.proofs.Common.{None, refl}
-use Rattle.std.specs.Prelude.{⊤, ◌/◌, ◌%◌, ◌*◌, ◌-◌, nat_lt, nat_eq, min, unsigned_abs}
-use Rattle.std.specs.Ordering.{int_eq}
-use Rattle.std.proofs.Math.Nat.{min-le_right}
-use Rattle.prefix_decoder.specs.declared.function.Fun.TheVariants as fun
-use Rattle.word_arithmetic.specs.Word.{greatest_word, least_word}
-use Rattle.word_arithmetic.specs.declared.compare.Comparison.{Comparison}
-use Rattle.word_arithmetic.specs.declared.compare.Comparison.TheVariants as comparison
-use Rattle.occam_parser.specs.Expressions.{Alone, Bracketed, Byte, Chained, Converted, Element, Expression, MostNeg}
-use Rattle.occam_parser.specs.Expressions.{MostPos, Named, Number, Paired, Prefixed, Term, Terms, Then, Truth, Two}
-use Rattle.occam_parser.specs.Lines.{Constants, Declaration, Place, Variables, Channels}
-use Rattle.occam_parser.specs.OneOrMore.{as_list}
-use Rattle.occam_parser.specs.declared.tree.ChainOperator.{ChainOperator}
-use Rattle.occam_parser.specs.declared.tree.PairOperator.{PairOperator}
-use Rattle.occam_parser.specs.declared.tree.PrefixOperator.{PrefixOperator}
-use Rattle.occam_parser.specs.declared.tree.ValueType.{ValueType}
-use Rattle.occam_parser.specs.declared.tree.PairOperator.TheVariants as pair
-use Rattle.occam_parser.specs.declared.tree.PrefixOperator.TheVariants as prefix
-use Rattle.occam_parser.specs.declared.tree.ValueType.TheVariants as value_type
-use Rattle.scalar_ranges.specs.Bounds.{bound_of, bound_of_term, exact_value, range_found}
-use Rattle.scalar_ranges.specs.Entries.{Array, Entry, Meaning, Scalar, meaning_in}
-use Rattle.scalar_ranges.specs.Fronts.{Front, count_of, front_in}
+use Rattle.std.proofs.Common.{ℕ, suc, ◌+◌, ℤ, Bool, List, [], ◌∷◌, ◌++◌, Option, Some}
+use Rattle.std.specs.List.{AllByRecursion}
+use Rattle.occam_parser.specs.Expressions.{Expression}
+use Rattle.occam_parser.specs.Lines.{Declaration, Place}
+use Rattle.scalar_ranges.specs.Entries.{Entry, Meaning, Scalar}
 use Rattle.scalar_ranges.specs.Narrowing.{Tested}
 use Rattle.scalar_ranges.specs.declared.scope.ScalarKind.TheVariants as kinds
 use Rattle.program_uses.specs.Signatures.{Parameter}
-use Rattle.code_pieces.specs.Pieces.{counted, Direct, Piece, TableAddress, constant, moves, operates, points, stores}
-use Rattle.code_pieces.specs.Pieces.{word_after}
-use Rattle.code_pieces.specs.declared.operations.TheConstants.{BYTE_SUBSCRIPT, INPUT, LOAD_BYTE, MINIMUM_INTEGER}
-use Rattle.code_pieces.specs.declared.operations.TheConstants.{OUTPUT, REVERSE, WORD_SUBSCRIPT}
-use Rattle.code_pieces.specs.declared.words.TheConstants.{GREATEST_WORD}
-use Rattle.line_pieces.specs.Actions.{KnownElement, NoTarget, OtherElement, OwnWord, Target, assign_code, by_number}
-use Rattle.line_pieces.specs.Actions.{carried, channel_code, channel_home, cleaned, element_target, exchange, forgets}
-use Rattle.line_pieces.specs.Actions.{input_code, length_of, link_code, message_code, output_code, source_of}
-use Rattle.line_pieces.specs.Actions.{source_of_term, store_after, store_code, store_known, stored_offset, stores_at}
-use Rattle.line_pieces.specs.Actions.{stores_below, target_address, target_of, whole_target}
-use Rattle.line_pieces.specs.Declarations.{Frame, declaration_code, spread, words_in, zero_code, zero_names}
-use Rattle.line_pieces.specs.Expressions.{Operand, Subscript, added_by, added_for, address_code, adds_or}
-use Rattle.line_pieces.specs.Expressions.{after_constant, back, before_offset, beside, both}
-use Rattle.line_pieces.specs.Expressions.{byte_address, chain_operation, comes_last, comparison_code, constant_or}
-use Rattle.line_pieces.specs.Expressions.{covered, element_code, element_of_table, element_of_words, equality_code}
-use Rattle.line_pieces.specs.Expressions.{exchanged, expression_code, first_code, first_of_terms, first_two}
-use Rattle.line_pieces.specs.Expressions.{is_known, is_small, is_small_term, known_address, loads_at, negated_unless}
-use Rattle.line_pieces.specs.Expressions.{negates, next_above, next_below, offset_of, onto, or_zero, pair_code}
-use Rattle.line_pieces.specs.Expressions.{pair_operation, prefix_code, pushed, pushes_of, scalar_code, single}
-use Rattle.line_pieces.specs.Expressions.{subscript_code, subscript_of, term_code, terms_code, truth}
-use Rattle.line_pieces.specs.Expressions.{unless, unless_added, without, comparison_pushes, on_constant}
-use Rattle.line_pieces.specs.Expressions.{below_constant, equality_pushes, is_byte_reference}
-use Rattle.line_pieces.specs.Homes.{Block, Home, Link, Passed, Table, Word, home_of}
+use Rattle.code_pieces.specs.Pieces.{Piece, constant, stores}
+use Rattle.code_pieces.proofs.AllOfPieces.{all_both}
+use Rattle.line_pieces.specs.Actions.{assign_code, cleaned, forgets, input_code, output_code}
+use Rattle.line_pieces.specs.Declarations.{Frame, declaration_code}
+use Rattle.line_pieces.specs.Expressions.{expression_code}
+use Rattle.line_pieces.specs.Homes.{Home, Table}
 use Rattle.code_generator.specs.Instances.{bindings_code, binding_code, bound, cleaning_code, meaning_at}
 use Rattle.code_generator.specs.Instances.{passed_target}
 use Rattle.code_generator.specs.Processes.{loop_start}
-use Rattle.meant_code.specs.Labels.{AreStraight, IsCounted, IsStraight}
-
--- ---- pieces
+use Rattle.meant_code.specs.Labels.{AreStraight, IsStraight}
+use Rattle.meant_code.proofs.LinesHave as lines
+use Rattle.meant_code.proofs.LinesHave.{HomeHas, HomesHave, OfInstructions}
 
 pub straight_both : (ps qs : List Piece) → AreStraight ps → AreStraight qs → AreStraight (ps ++ qs)
-straight_both [] qs first second = second
-straight_both (p ∷ ps) qs first second = (first.0, straight_both ps qs first.1 second)
+straight_both ps qs first second = all_both IsStraight ps qs first second
 
-by_test : (b : Bool) (ps qs : List Piece) → AreStraight ps → AreStraight qs → AreStraight (cond b ps qs)
-by_test true ps qs first second = first
-by_test false ps qs first second = second
+-- each instruction is, if its word is counted
+of_instructions : OfInstructions IsStraight
+of_instructions f e named = named
 
-pub counted_is : (word : ℕ) → IsCounted (pos (counted word))
-unfolding counted
-counted_is word = record { word = min word GREATEST_WORD; is = refl; few = min-le_right word GREATEST_WORD }
+home_is : (h : Home) → HomeHas IsStraight h
+home_is (Table values) = tt
+home_is h = tt
+
+homes_are : (hs : List Home) → HomesHave IsStraight hs
+homes_are [] = tt
+homes_are (h ∷ hs) = (home_is h, homes_are hs)
 
 pub constant_is : (v : ℤ) → IsStraight (constant v)
-constant_is v = by_least (int_eq v least_word)
-  where
-    by_least : (b : Bool) → IsStraight (cond b (operates MINIMUM_INTEGER) (Direct fun.LoadConstant v))
-    by_least true = tt
-    by_least false = tt
+constant_is v = lines.constant_is IsStraight of_instructions v
 
-one : (p : Piece) → IsStraight p → AreStraight (p ∷ [])
-one p is = (is, tt)
-
--- ---- expressions
-
-prefix_is : (op : PrefixOperator) → AreStraight (prefix_code op)
-prefix_is prefix.Negate = (tt, (tt, tt))
-prefix_is prefix.BitNot = (tt, tt)
-prefix_is prefix.Not = (tt, tt)
-
-constant_or_is : (o : Option ℤ) (ps : List Piece) → AreStraight ps → AreStraight (constant_or o ps)
-constant_or_is None ps are = are
-constant_or_is (Some v) ps are = one (constant v) (constant_is v)
-
-scalar_is : (reference : Bool) (h : Option Home) → AreStraight (scalar_code reference h)
-scalar_is true (Some (Passed w)) = (counted_is w, (tt, tt))
-scalar_is false (Some (Passed w)) = (counted_is w, tt)
-scalar_is reference (Some (Word w)) = (counted_is w, tt)
-scalar_is reference (Some (Block w head)) = (counted_is w, tt)
-scalar_is reference h = tt
-
--- a subscript whose code is
-pub record StraightSubscript (s : Subscript) : Type 0 where
-  pub whole : AreStraight s.whole
-  pub first : AreStraight s.first
-
-without_is : (o : Option ℤ) (whole first : List Piece) → AreStraight whole → AreStraight first
-    → AreStraight (without o whole first)
-without_is None whole first are others = are
-without_is (Some c) whole first are others = others
-
-byte_address_is : (w n : ℕ) → AreStraight (byte_address w n)
-byte_address_is w n =
-    by_test (nat_eq (n % 4) 0) (points (word_after w (n / 4)) ∷ [])
-    (constant (pos (n % 4)) ∷ points (word_after w (n / 4)) ∷ operates BYTE_SUBSCRIPT ∷ [])
-    (counted_is (word_after w (n / 4)), tt)
-    (constant_is (pos (n % 4)), (counted_is (word_after w (n / 4)), (tt, tt)))
-
-known_address_is : (type : ValueType) (w n : ℕ) → AreStraight (known_address type w n)
-known_address_is value_type.Int w n = (counted_is (word_after w n), tt)
-known_address_is value_type.Byte w n = byte_address_is w n
-
-subscript_code_is : (type : ValueType) (w : ℕ) → AreStraight (subscript_code type w)
-subscript_code_is value_type.Int w = (counted_is w, (tt, tt))
-subscript_code_is value_type.Byte w = (counted_is w, (tt, tt))
-
-address_is : (type : ValueType) (w : ℕ) (c : Option ℤ) (subscript : List Piece) → AreStraight subscript
-    → AreStraight (address_code type w c subscript)
-address_is type w (Some c) subscript are = known_address_is type w (unsigned_abs c)
-address_is type w None subscript are =
-    straight_both subscript (subscript_code type w) are (subscript_code_is type w)
-
-element_of_words_is : (type : ValueType) (w : ℕ) (c : Option ℤ) (s : Subscript) → StraightSubscript s
-    → AreStraight (element_of_words type w c s)
-element_of_words_is value_type.Int w (Some c) s are = (counted_is (word_after w (unsigned_abs c)), tt)
-element_of_words_is value_type.Int w None s are =
-    straight_both (before_offset s ++ subscript_code value_type.Int w) (loads_at (or_zero s.offset) ∷ [])
-    (straight_both (before_offset s) (subscript_code value_type.Int w)
-    (without_is s.offset s.whole s.first are.whole are.first) (subscript_code_is value_type.Int w)) (tt, tt)
-element_of_words_is value_type.Byte w c s are =
-    straight_both (address_code value_type.Byte w c s.whole) (operates LOAD_BYTE ∷ [])
-    (address_is value_type.Byte w c s.whole are.whole) (tt, tt)
-
-element_of_table_is : (values : List ℤ) (c : Option ℤ) (s : Subscript) → StraightSubscript s
-    → AreStraight (element_of_table values c s)
-element_of_table_is values (Some c) s are = (tt, (tt, tt))
-element_of_table_is values None s are =
-    straight_both (before_offset s)
-    (TableAddress values ∷ operates WORD_SUBSCRIPT ∷ loads_at (or_zero s.offset) ∷ [])
-    (without_is s.offset s.whole s.first are.whole are.first) (tt, (tt, (tt, tt)))
-
-element_is : (h : Option Home) (m : Option Meaning) (c : Option ℤ) (s : Subscript) → StraightSubscript s
-    → AreStraight (element_code h m c s)
-element_is (Some (Word w)) (Some (Array kind type size range)) c s are = element_of_words_is type w c s are
-element_is (Some (Passed w)) (Some (Array kind type size range)) c s are = element_of_words_is type w c s are
-element_is (Some (Table values)) m c s are = element_of_table_is values c s are
-element_is h m c s are = tt
-
--- an operand whose code is
-record StraightOperand (x : Operand) : Type 0 where
-  first : AreStraight x.first
-  second : AreStraight x.second
-
-exchanged_is : (in_order : Bool) → AreStraight (exchanged in_order)
-exchanged_is true = (tt, tt)
-exchanged_is false = tt
-
-onto_is : (in_order : Bool) (t : ℕ) (small : Bool) (right : List Piece) → AreStraight right
-    → AreStraight (onto in_order t small right)
-onto_is in_order t true right are = are
-onto_is in_order t false right are =
-    (counted_is t, straight_both right (back in_order t) are (counted_is t, exchanged_is in_order))
-
-both_is : (in_order last : Bool) (t : ℕ) (x y : Operand) → StraightOperand x → StraightOperand y
-    → AreStraight (both in_order last t x y)
-both_is in_order true t x y first second =
-    straight_both y.first (x.first ++ exchanged in_order) second.first
-    (straight_both x.first (exchanged in_order) first.first (exchanged_is in_order))
-both_is in_order false t x y first second =
-    straight_both x.first (onto in_order t y.small y.second) first.first
-    (onto_is in_order t y.small y.second second.second)
-
-after_constant_is : (v : ℤ) (small : Bool) (ps : List Piece) → AreStraight ps → AreStraight (after_constant v small ps)
-after_constant_is v true ps are = (constant_is v, are)
-after_constant_is v false ps are =
-    straight_both ps (constant v ∷ operates REVERSE ∷ []) are (constant_is v, (tt, tt))
-
-adds_or_is : (o : Option ℤ) (ps : List Piece) → AreStraight ps → AreStraight (adds_or o ps)
-adds_or_is None ps are = are
-adds_or_is (Some v) ps are = (tt, tt)
-
--- the operands of an operator between two, by what is known of both
-module _ (t : ℕ) (x y : Operand) (first : StraightOperand x) (second : StraightOperand y) where
-  arithmetic_pushed : (added : Option ℤ)
-      → AreStraight (pushed (unless_added added (comparison_pushes comparison.Greater None None)) t x y)
-  arithmetic_pushed None = both_is true (comes_last x.leaf y.small) t x y first second
-  arithmetic_pushed (Some v) = first.first
-
-  above_pushed : (next : Option ℤ)
-      → AreStraight (pushed (on_constant (comparison_pushes comparison.Greater None None) next) t x y)
-  above_pushed None = both_is true (comes_last x.leaf y.small) t x y first second
-  above_pushed (Some v) = after_constant_is v x.small x.first first.first
-
-  less_pushed : (b : Option ℤ) → AreStraight (pushed (comparison_pushes comparison.Less None b) t x y)
-  less_pushed None = both_is true (comes_last y.leaf x.small) t y x second first
-  less_pushed (Some v) = after_constant_is v x.small x.first first.first
-
-  below_pushed : (next : Option ℤ)
-      → AreStraight (pushed (below_constant (comparison_pushes comparison.Less None None) next) t x y)
-  below_pushed None = both_is true (comes_last y.leaf x.small) t y x second first
-  below_pushed (Some v) = straight_both x.first (constant v ∷ []) first.first (constant_is v, tt)
-
-  equality_pushed : (a b : Option ℤ) → AreStraight (pushed (equality_pushes a b) t x y)
-  equality_pushed a (Some v) = first.first
-  equality_pushed (Some v) None = second.first
-  equality_pushed None None = both_is false (comes_last x.leaf y.small) t x y first second
-
-  comparison_pushed : (op : Comparison) (a b : Option ℤ) → AreStraight (pushed (comparison_pushes op a b) t x y)
-  comparison_pushed comparison.Greater a b = both_is true (comes_last x.leaf y.small) t x y first second
-  comparison_pushed comparison.LessOrEqual a b = above_pushed (next_above b)
-  comparison_pushed comparison.Less a b = less_pushed b
-  comparison_pushed comparison.GreaterOrEqual a b = below_pushed (next_below b)
-  comparison_pushed comparison.Equal a b = equality_pushed a b
-  comparison_pushed comparison.NotEqual a b = equality_pushed a b
-
-  pushed_is : (op : PairOperator) (a b : Option ℤ) → AreStraight (pushed (pushes_of op a b) t x y)
-  pushed_is (pair.Arithmetic op) a b = arithmetic_pushed (added_for op b)
-  pushed_is (pair.Comparison op) a b = comparison_pushed op a b
-
-  first_two_is : (op : ChainOperator) (added : Option ℤ) → AreStraight (first_two t op added x y)
-  first_two_is op None =
-      straight_both (both false (comes_last x.leaf y.small) t x y) (operates (chain_operation op) ∷ [])
-      (both_is false (comes_last x.leaf y.small) t x y first second) (tt, tt)
-  first_two_is op (Some v) = straight_both x.first (Direct fun.AddConstant v ∷ []) first.first (tt, tt)
-
-equality_is : (a b : Option ℤ) → AreStraight (equality_code a b)
-equality_is a (Some v) = (tt, tt)
-equality_is (Some v) None = (tt, tt)
-equality_is None None = (tt, (tt, tt))
-
-negated_is : (o : Option ℤ) → AreStraight (negated_unless o)
-negated_is None = (tt, tt)
-negated_is (Some v) = tt
-
-comparison_is : (op : Comparison) (a b : Option ℤ) → AreStraight (comparison_code op a b)
-comparison_is comparison.Greater a b = (tt, tt)
-comparison_is comparison.Less a b = (tt, tt)
-comparison_is comparison.LessOrEqual a b = (tt, negated_is (next_above b))
-comparison_is comparison.GreaterOrEqual a b = (tt, negated_is (next_below b))
-comparison_is comparison.Equal a b = equality_is a b
-comparison_is comparison.NotEqual a b = straight_both (equality_code a b) (negates ∷ []) (equality_is a b) (tt, tt)
-
-pair_is : (op : PairOperator) (a b : Option ℤ) → AreStraight (pair_code op a b)
-pair_is (pair.Arithmetic op) a b = adds_or_is (added_for op b) (operates (pair_operation op) ∷ []) (tt, tt)
-pair_is (pair.Comparison op) a b = comparison_is op a b
-
-unless_is : (b : Bool) (ps : List Piece) → AreStraight ps → AreStraight (unless b ps)
-unless_is true ps are = tt
-unless_is false ps are = are
-
-mutual
-  pub expression_is : (hs : List Home) (es : List Entry) (t : ℕ) (e : Expression)
-      → AreStraight (expression_code hs es t e)
-  expression_is hs es t (Alone x) =
-      constant_or_is (exact_value (bound_of es (Alone x))) (term_code hs es t x) (term_is hs es t x)
-  expression_is hs es t (Prefixed op x) =
-      constant_or_is (exact_value (bound_of es (Prefixed op x))) (term_code hs es t x ++ prefix_code op)
-      (straight_both (term_code hs es t x) (prefix_code op) (term_is hs es t x) (prefix_is op))
-  expression_is hs es t (Paired op x y) =
-      let a = exact_value (bound_of_term es x) in
-      let b = exact_value (bound_of_term es y) in
-      let first = beside es x (term_code hs es t x) (term_code hs es (word_after t 1) x) in
-      let second = beside es y (term_code hs es t y) (term_code hs es (word_after t 1) y) in
-      constant_or_is (exact_value (bound_of es (Paired op x y)))
-      (pushed (pushes_of op a b) t first second ++ pair_code op a b)
-      (straight_both (pushed (pushes_of op a b) t first second) (pair_code op a b)
-      (pushed_is t first second (record { first = term_is hs es t x; second = term_is hs es (word_after t 1) x })
-      (record { first = term_is hs es t y; second = term_is hs es (word_after t 1) y }) op a b) (pair_is op a b))
-  expression_is hs es t (Chained op xs) =
-      constant_or_is (exact_value (bound_of es (Chained op xs))) (terms_code hs es t op (front_in es op xs) xs)
-      (terms_are hs es t op (front_in es op xs) xs)
-
-  first_is : (hs : List Home) (es : List Entry) (t : ℕ) (e : Expression) → AreStraight (first_code hs es t e)
-  first_is hs es t (Chained op xs) = first_of_terms_is hs es t xs
-  first_is hs es t e = tt
-
-  first_of_terms_is : (hs : List Home) (es : List Entry) (t : ℕ) (xs : Terms)
-      → AreStraight (first_of_terms hs es t xs)
-  first_of_terms_is hs es t (Two x y) = term_is hs es t x
-  first_of_terms_is hs es t (Then xs x) = first_of_terms_is hs es t xs
-
-  terms_are : (hs : List Home) (es : List Entry) (t : ℕ) (op : ChainOperator) (front : Option Front) (xs : Terms)
-      → AreStraight (terms_code hs es t op front xs)
-  terms_are hs es t op front (Two x y) =
-      let added = added_by op (exact_value (bound_of_term es y)) in
-      let first = beside es x (term_code hs es t x) (term_code hs es (word_after t 1) x) in
-      let second = beside es y (term_code hs es t y) (term_code hs es (word_after t 1) y) in
-      constant_or_is (covered front 2) (first_two t op added first second)
-      (first_two_is t first second (record { first = term_is hs es t x; second = term_is hs es (word_after t 1) x })
-      (record { first = term_is hs es t y; second = term_is hs es (word_after t 1) y }) op added)
-  terms_are hs es t op front (Then xs x) =
-      let right = term_code hs es (word_after t 1) x in
-      let added = added_by op (exact_value (bound_of_term es x)) in
-      let pushed_one = onto false t (is_small_term es x) right in
-      let all = pushed_one ++ operates (chain_operation op) ∷ [] in
-      straight_both (terms_code hs es t op front xs)
-      (unless (is_known (covered front (count_of xs + 1))) (adds_or added all)) (terms_are hs es t op front xs)
-      (unless_is (is_known (covered front (count_of xs + 1))) (adds_or added all)
-      (adds_or_is added all (straight_both pushed_one (operates (chain_operation op) ∷ [])
-      (onto_is false t (is_small_term es x) right (term_is hs es (word_after t 1) x)) (tt, tt))))
-
-  term_is : (hs : List Home) (es : List Entry) (t : ℕ) (x : Term) → AreStraight (term_code hs es t x)
-  term_is hs es t (Number value) = one (constant value) (constant_is value)
-  term_is hs es t (Byte byte) = one (constant (pos byte)) (constant_is (pos byte))
-  term_is hs es t (Truth holds) = one (constant (truth holds)) (constant_is (truth holds))
-  term_is hs es t MostPos = one (constant greatest_word) (constant_is greatest_word)
-  term_is hs es t MostNeg = one (constant least_word) (constant_is least_word)
-  term_is hs es t (Named name) =
-      constant_or_is (exact_value (bound_of_term es (Named name)))
-      (scalar_code (is_byte_reference (meaning_in name es)) (home_of hs es name))
-      (scalar_is (is_byte_reference (meaning_in name es)) (home_of hs es name))
-  term_is hs es t (Element name e) =
-      element_is (home_of hs es name) (meaning_in name es) (single (range_found (bound_of es e)))
-      (record {
-        whole = expression_code hs es t e;
-        offset = offset_of es e;
-        first = first_code hs es t e;
-        small = is_small es e;
-      }) (record { whole = expression_is hs es t e; first = first_is hs es t e })
-  term_is hs es t (Bracketed e) = expression_is hs es t e
-  term_is hs es t (Converted to x) = term_is hs es t x
-
-subscript_is : (hs : List Home) (es : List Entry) (t : ℕ) (e : Expression) → StraightSubscript (subscript_of hs es t e)
-subscript_is hs es t e = record { whole = expression_is hs es t e; first = first_is hs es t e }
-
--- ---- targets
-
--- a target whose subscript is
-abbrev StraightTarget : Target → Type 0
-StraightTarget (OtherElement type w s) = StraightSubscript s
-StraightTarget other = ⊤
-
-whole_target_is : (h : Option Home) (m : Option Meaning) → StraightTarget (whole_target h m)
-whole_target_is (Some (Word w)) (Some (Scalar kind type range)) = tt
-whole_target_is (Some (Passed w)) (Some (Scalar kind type range)) = tt
-whole_target_is h m = tt
-
-by_number_is : (type : ValueType) (w : ℕ) (value : Option ℤ) (s : Subscript) → StraightSubscript s
-    → StraightTarget (by_number type w value s)
-by_number_is type w (Some c) s are = tt
-by_number_is type w None s are = are
-
-element_target_is : (h : Option Home) (m : Option Meaning) (value : Option ℤ) (s : Subscript) → StraightSubscript s
-    → StraightTarget (element_target h m value s)
-element_target_is (Some (Word w)) (Some (Array kind type size range)) value s are = by_number_is type w value s are
-element_target_is (Some (Passed w)) (Some (Array kind type size range)) value s are = by_number_is type w value s are
-element_target_is h m value s are = tt
-
-target_is : (hs : List Home) (es : List Entry) (t : ℕ) (p : Place) → StraightTarget (target_of hs es t p)
-target_is hs es t p = by_subscript p.subscript
-  where
-    by_subscript : (o : Option Expression) → StraightTarget (elim o [
-      | None ↦ whole_target (home_of hs es p.name) (meaning_in p.name es)
-      | Some e ↦ element_target (home_of hs es p.name) (meaning_in p.name es) (single (range_found (bound_of es e)))
-          (subscript_of hs es t e)
-    ])
-    by_subscript None = whole_target_is (home_of hs es p.name) (meaning_in p.name es)
-    by_subscript (Some e) =
-        element_target_is (home_of hs es p.name) (meaning_in p.name es) (single (range_found (bound_of es e)))
-        (subscript_of hs es t e) (subscript_is hs es t e)
-
--- ---- assignments
-
-stores_at_is : (type : ValueType) (n : ℤ) → IsStraight (stores_at type n)
-stores_at_is value_type.Int n = tt
-stores_at_is value_type.Byte n = tt
-
-stores_below_is : (type : ValueType) (n : ℤ) (t : ℕ) → AreStraight (stores_below type n t)
-stores_below_is type n t = (counted_is t, (tt, (stores_at_is type n, tt)))
-
-moves_is : (count from to : ℕ) → AreStraight (moves count from to)
-moves_is count from to =
-    (counted_is from, (counted_is to, (constant_is (pos (4 * counted count)), (tt, tt))))
-
-store_known_is : (type : ValueType) (w n t : ℕ) → AreStraight (store_known type w n t)
-store_known_is value_type.Int w n t = moves_is 1 t (word_after w n)
-store_known_is value_type.Byte w n t =
-    straight_both (known_address value_type.Byte w n) (stores_below value_type.Byte (pos 0) t)
-    (known_address_is value_type.Byte w n) (stores_below_is value_type.Byte (pos 0) t)
-
-store_after_is : (type : ValueType) (w : ℕ) (small : Bool) (n : ℤ) (subscript : List Piece) (t : ℕ)
-    → AreStraight subscript → AreStraight (store_after type w small n subscript t)
-store_after_is type w true n subscript t are =
-    straight_both (subscript ++ subscript_code type w) (stores_at type n ∷ [])
-    (straight_both subscript (subscript_code type w) are (subscript_code_is type w))
-    (stores_at_is type n, tt)
-store_after_is type w false n subscript t are = (
-  counted_is t,
-  straight_both (subscript ++ subscript_code type w) (stores_below type n t)
-      (straight_both subscript (subscript_code type w) are (subscript_code_is type w)) (stores_below_is type n t),
-)
-
-store_is : (target : Target) (t : ℕ) → StraightTarget target → AreStraight (store_code target t)
-store_is NoTarget t are = tt
-store_is (OwnWord type w) t are = (counted_is w, tt)
-store_is (KnownElement type w n) t are = (counted_is t, store_known_is type w n t)
-store_is (OtherElement type w s) t are =
-    let offset = stored_offset type s.offset in
-    store_after_is type w s.small (or_zero offset) (without offset s.whole s.first) t
-    (without_is offset s.whole s.first are.whole are.first)
+pub expression_is : (hs : List Home) (es : List Entry) (t : ℕ) (e : Expression)
+    → AreStraight (expression_code hs es t e)
+expression_is hs es t e = lines.expression_is IsStraight of_instructions hs (homes_are hs) es t e
 
 pub assign_is : (hs : List Home) (es : List Entry) (t : ℕ) (target : Place) (value : Expression)
     → AreStraight (assign_code hs es t target value)
 assign_is hs es t target value =
-    straight_both (expression_code hs es t value) (store_code (target_of hs es (word_after t 1) target) t)
-    (expression_is hs es t value)
-    (store_is (target_of hs es (word_after t 1) target) t (target_is hs es (word_after t 1) target))
-
--- ---- channels
-
-link_is : (n : ℕ) → AreStraight (link_code n)
-link_is n = (tt, by_test (nat_eq n 0) [] (Direct fun.LoadNonLocalPointer (pos n) ∷ []) tt (tt, tt))
-
-channel_is : (h : Option Home) → AreStraight (channel_code h)
-channel_is (Some (Link n)) = link_is n
-channel_is (Some (Word w)) = (counted_is w, tt)
-channel_is (Some (Passed w)) = (counted_is w, tt)
-channel_is h = tt
-
-exchange_is : (hs : List Home) (es : List Entry) (channel : Place) (op : ℤ) → AreStraight (exchange hs es channel op)
-exchange_is hs es channel op =
-    let length = length_of (carried (meaning_in channel.name es)) in
-    straight_both (channel_code (channel_home hs es channel)) (constant length ∷ operates op ∷ [])
-    (channel_is (channel_home hs es channel)) (constant_is length, (tt, tt))
-
-address_of_is : (target : Target) → StraightTarget target → AreStraight (target_address target)
-address_of_is NoTarget are = tt
-address_of_is (OwnWord type w) are = (counted_is w, tt)
-address_of_is (KnownElement type w n) are = known_address_is type w n
-address_of_is (OtherElement type w s) are =
-    straight_both s.whole (subscript_code type w) are.whole (subscript_code_is type w)
-
-cleaned_is : (target : Target) → AreStraight (cleaned target)
-cleaned_is (OwnWord value_type.Byte w) = (counted_is w, (tt, (counted_is w, tt)))
-cleaned_is other = tt
+    lines.assign_is IsStraight of_instructions hs (homes_are hs) es t target value
 
 pub input_is : (hs : List Home) (es : List Entry) (t : ℕ) (channel target : Place)
     → AreStraight (input_code hs es t channel target)
 input_is hs es t channel target =
-    let place = target_of hs es t target in
-    straight_both (target_address place ++ exchange hs es channel INPUT) (cleaned place)
-    (straight_both (target_address place) (exchange hs es channel INPUT)
-    (address_of_is place (target_is hs es t target)) (exchange_is hs es channel INPUT)) (cleaned_is place)
-
-source_of_term_is : (hs : List Home) (es : List Entry) (t : ℕ) (x : Term) → StraightTarget (source_of_term hs es t x)
-source_of_term_is hs es t (Named name) = target_is hs es t (record { name = name; subscript = None })
-source_of_term_is hs es t (Element name e) = target_is hs es t (record { name = name; subscript = Some e })
-source_of_term_is hs es t x = tt
-
-source_is : (hs : List Home) (es : List Entry) (t : ℕ) (e : Expression) → StraightTarget (source_of hs es t e)
-source_is hs es t (Alone x) = source_of_term_is hs es t x
-source_is hs es t e = tt
-
-message_is : (source : Target) (t : ℕ) (value : List Piece) → StraightTarget source → AreStraight value
-    → AreStraight (message_code source t value)
-message_is NoTarget t value are others =
-    straight_both value (stores t ∷ points t ∷ []) others (counted_is t, (counted_is t, tt))
-message_is source t value are others = address_of_is source are
+    lines.input_is IsStraight of_instructions hs (homes_are hs) es t channel target
 
 pub output_is : (hs : List Home) (es : List Entry) (t : ℕ) (channel : Place) (value : Expression)
     → AreStraight (output_code hs es t channel value)
 output_is hs es t channel value =
-    straight_both (message_code (source_of hs es t value) t (expression_code hs es t value))
-    (exchange hs es channel OUTPUT)
-    (message_is (source_of hs es t value) t (expression_code hs es t value) (source_is hs es t value)
-    (expression_is hs es t value)) (exchange_is hs es channel OUTPUT)
-
--- ---- tests
+    lines.output_is IsStraight of_instructions hs (homes_are hs) es t channel value
 
 pub forgets_is : (shows : Bool) (test : Option Tested) → AreStraight (forgets shows test)
-forgets_is true None = (tt, tt)
-forgets_is shows test = tt
-
--- ---- declarations
-
-spread_is : (moves_left word count done : ℕ) → AreStraight (spread moves_left word count done)
-spread_is zero word count done = tt
-spread_is (suc more) word count done =
-    let now = min done (count - done) in
-    by_test (nat_lt done count) (moves now word (word_after word done) ++ spread more word count (done + now)) []
-    (straight_both (moves now word (word_after word done)) (spread more word count (done + now))
-    (moves_is now word (word_after word done)) (spread_is more word count (done + now))) tt
-
-zero_is : (size : Option Expression) (word count : ℕ) → AreStraight (zero_code size word count)
-zero_is None word count = (constant_is (pos 0), (counted_is word, tt))
-zero_is (Some size) word count = (
-  constant_is (pos 0),
-  (
-    counted_is (word_after word count),
-    straight_both (moves 1 (word_after word count) word) (spread (count - 1) word count 1)
-        (moves_is 1 (word_after word count) word) (spread_is (count - 1) word count 1),
-  ),
-)
-
-zero_names_is : (size : Option Expression) (count : ℕ) (names : List (List ℕ)) (word : ℕ)
-    → AreStraight (zero_names size count names word)
-zero_names_is size count [] word = tt
-zero_names_is size count (name ∷ names) word =
-    straight_both (zero_code size word count) (zero_names size count names (word_after word count))
-    (zero_is size word count) (zero_names_is size count names (word_after word count))
+forgets_is shows test = lines.forgets_is IsStraight of_instructions shows test
 
 pub declaration_is : (es : List Entry) (d : Declaration) (top : ℕ) → AreStraight (declaration_code es d top)
-declaration_is es (Constants c) top = tt
-declaration_is es (Variables n) top =
-    zero_names_is n.size (words_in es n.value_type n.size) (as_list n.names) top
-declaration_is es (Channels n) top = tt
-
--- ---- loops
+declaration_is es d top = lines.declaration_is IsStraight of_instructions es d top
 
 pub loop_start_is : (word : ℕ) (base count : ℤ) → AreStraight (loop_start word base count)
-loop_start_is word base count =
-    (constant_is base, (counted_is word, (constant_is count, (counted_is (word_after word 1), tt))))
+loop_start_is word base count = lines.loop_start_is IsStraight of_instructions word base count
 
 -- ---- instances
 
 binding_is : (hs : List Home) (es : List Entry) (m : Option Meaning) (e : Expression) (top : ℕ)
     → AreStraight (binding_code hs es m e top)
 binding_is hs es (Some (Scalar kinds.Value type range)) e top =
-    straight_both (expression_code hs es top e) (stores top ∷ []) (expression_is hs es top e) (counted_is top, tt)
+    straight_both (expression_code hs es top e) (stores top ∷ []) (expression_is hs es top e)
+    (lines.stores_is IsStraight of_instructions top, tt)
 binding_is hs es m e top = tt
 
 pub bindings_are : (hs : List Home) (es : List Entry) (qs : List Parameter) (i : ℕ) (actuals : List Expression)
@@ -538,4 +88,4 @@ pub cleaning_is : (hs : List Home) (es : List Entry) (t : ℕ) (qs : List Parame
 cleaning_is hs es t qs i [] = tt
 cleaning_is hs es t qs i (e ∷ actuals) =
     straight_both (cleaned (passed_target hs es t (meaning_at i qs) e)) (cleaning_code hs es t qs (suc i) actuals)
-    (cleaned_is (passed_target hs es t (meaning_at i qs) e)) (cleaning_is hs es t qs (suc i) actuals)
+    (lines.cleaned_is IsStraight of_instructions (passed_target hs es t (meaning_at i qs) e)) (cleaning_is hs es t qs (suc i) actuals)

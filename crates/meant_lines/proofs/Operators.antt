@@ -12,6 +12,7 @@ use Rattle.word_arithmetic.specs.declared.binary.Binary.{Binary}
 use Rattle.scalar_ranges.specs.Entries.{Entry}
 use Rattle.scalar_ranges.specs.Environments.{Environment, Meets}
 use Rattle.code_pieces.specs.Pieces.{Piece, operates, stores, counted, word_after}
+use Rattle.code_pieces.proofs.AllOfPieces.{all_first, all_last}
 use Rattle.line_pieces.specs.Expressions.{both, comes_last, back, exchanged}
 use Rattle.placed_code.specs.StraightPieces as pieces
 use Rattle.placed_code.specs.StraightPieces.{LeadOn, done, with_pushed, word_place}
@@ -30,19 +31,11 @@ use Rattle.meant_lines.proofs.Pushing.{carries_after}
 
 -- ---- parts of code
 
-pub first_all : (P : Piece → Type 0) (ps qs : List Piece) → AllByRecursion P (ps ++ qs) → AllByRecursion P ps
-first_all P [] qs all = tt
-first_all P (p ∷ ps) qs all = (all.0, first_all P ps qs all.1)
-
-pub rest_all : (P : Piece → Type 0) (ps qs : List Piece) → AllByRecursion P (ps ++ qs) → AllByRecursion P qs
-rest_all P [] qs all = all
-rest_all P (p ∷ ps) qs all = rest_all P ps qs all.1
-
 pub first_stand : (g : Ground) (ps qs : List Piece) → AllStandOn g (ps ++ qs) → AllStandOn g ps
-first_stand g ps qs all = first_all (StandsOn g.words g.pieces) ps qs all
+first_stand g ps qs all = all_first (StandsOn g.words g.pieces) ps qs all
 
 pub rest_stand : (g : Ground) (ps qs : List Piece) → AllStandOn g (ps ++ qs) → AllStandOn g qs
-rest_stand g ps qs all = rest_all (StandsOn g.words g.pieces) ps qs all
+rest_stand g ps qs all = all_last (StandsOn g.words g.pieces) ps qs all
 
 -- a temporary that is stored is a word of the frame
 pub temporary_within : (words t : ℕ) → IsCounted t → counted t < words → t < words

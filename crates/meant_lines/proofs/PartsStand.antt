@@ -5,10 +5,10 @@ use Rattle.prefix_decoder.specs.declared.function.Fun.TheVariants as fun
 use Rattle.code_pieces.specs.Laying.{word_above, words_named, words_taken}
 use Rattle.code_pieces.specs.Pieces.{Piece, Direct, Jump, JumpUnless, LoopBack, Distance, StartBranch, Select}
 use Rattle.code_pieces.specs.Pieces.{TableAddress, Row, Place, Within, Par}
+use Rattle.code_pieces.proofs.AllOfPieces.{all_first, all_last}
 use Rattle.placed_code.specs.TablesInMemory.{ReadsTable}
 use Rattle.meant_lines.specs.Carrying.{Ground}
 use Rattle.meant_lines.specs.Pushing.{StoresWithin, AllStoreWithin, StandsOn, AllStandOn, CodeStoresWithin, PartsStand}
-use Rattle.meant_lines.proofs.Operators.{first_all, rest_all}
 
 -- ---- the whole
 
@@ -60,5 +60,5 @@ all_stand g before (p ∷ ps) rest is stores = (
 pub parts_stand : PartsStand
 parts_stand g before ps rest stores is =
     all_stand g before ps rest is
-    (first_all (StoresWithin g.words) ps rest
-    (rest_all (StoresWithin g.words) before (ps ++ rest) (subst (AllStoreWithin g.words) is stores)))
+    (all_first (StoresWithin g.words) ps rest
+    (all_last (StoresWithin g.words) before (ps ++ rest) (subst (AllStoreWithin g.words) is stores)))

@@ -16,6 +16,7 @@ use Rattle.usage_checks.specs.Outlines.{IsMadeOf}
 use Rattle.usage_checks.specs.Reaching.{Piece, Reaches, StandsAmong, in_block, to_part}
 use Rattle.usage_checks.proofs.OutlinesStay.{kind_fits}
 use Rattle.code_pieces.specs.Pieces.{Code}
+use Rattle.code_pieces.proofs.AllOfPieces.{all_first}
 use Rattle.line_pieces.specs.Declarations.{Frame, facts_in}
 use Rattle.code_generator.specs.Processes.{EndedChoices, Site, by_block, choices_code, components_code}
 use Rattle.code_generator.specs.Processes.{if_code, placed_choices, row_of, with_ending, with_opening}
@@ -24,7 +25,7 @@ use Rattle.meant_processes.specs.Places.{AllFit, CarriedAt, FitsIn, IsPlaced, Pr
 use Rattle.meant_processes.specs.Premises.{ConditionsPush}
 use Rattle.meant_processes.proofs.Behaving.{pieces_as}
 use Rattle.meant_processes.proofs.Choices.{EndingMeans, choices_behave, ending_means, opening_means}
-use Rattle.meant_processes.proofs.CodeParts.{all_first, closed_is}
+use Rattle.meant_processes.proofs.CodeParts.{closed_is}
 use Rattle.meant_processes.proofs.Ifs.{choices_mean}
 use Rattle.meant_processes.proofs.Placing.{Left}
 use Rattle.meant_processes.proofs.Sequences.{ConstructBehaves, EachBehaves, components_behave, indices_here}

@@ -15,6 +15,7 @@ use Rattle.code_pieces.specs.declared.operations.TheConstants.{STOP_PROCESS}
 use Rattle.code_pieces.specs.declared.piece.RowEntry.{RowEntry}
 use Rattle.code_pieces.specs.Pieces.{Code, Jump, JumpUnless, Piece, Row}
 use Rattle.code_pieces.specs.Pieces.{closed_by, operates, then_code, written}
+use Rattle.code_pieces.proofs.AllOfPieces.{all_first, all_last}
 use Rattle.line_pieces.specs.Actions.{forgets, may_show, test_code}
 use Rattle.line_pieces.specs.Declarations.{Frame, facts_in}
 use Rattle.line_pieces.specs.Expressions.{expression_code}
@@ -35,7 +36,7 @@ use Rattle.meant_processes.specs.Lying.{ComesTo, IsAtApart, LieApart, PiecesBeha
 use Rattle.meant_processes.proofs.Lying.{apart_both, apart_rises, jump_and_row, jump_lies, row_lies}
 use Rattle.meant_processes.proofs.Lying.{row_passes, straight_lie}
 use Rattle.meant_processes.proofs.Behaving.{goes_on_behind}
-use Rattle.meant_processes.proofs.CodeParts.{all_first, all_last, before_is, closed_is, then_is, written_is}
+use Rattle.meant_processes.proofs.CodeParts.{before_is, closed_is, then_is, written_is}
 
 -- Choices in a frame, that begin with one environment, where one thing holds of memory before each test, and another
 -- after the process that is chosen.

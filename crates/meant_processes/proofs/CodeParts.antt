@@ -44,13 +44,3 @@ then_is (Some d) next c is =
 pub written_is : (ps : List Piece) (label : ℕ) (c : Code) → written ps label ≡ Some c → c.pieces ≡ ps
 written_is ps label c is =
     let same : record { pieces = ps; labels = label } ≡ c = cc is in sym (ap (λ (x : Code). x.pieces) same)
-
--- ---- what holds of all pieces
-
-pub all_first : (P : Piece → Type 0) (ps qs : List Piece) → AllByRecursion P (ps ++ qs) → AllByRecursion P ps
-all_first P [] qs all = tt
-all_first P (p ∷ ps) qs all = (all.0, all_first P ps qs all.1)
-
-pub all_last : (P : Piece → Type 0) (ps qs : List Piece) → AllByRecursion P (ps ++ qs) → AllByRecursion P qs
-all_last P [] qs all = all
-all_last P (p ∷ ps) qs all = all_last P ps qs all.1

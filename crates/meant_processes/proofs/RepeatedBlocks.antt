@@ -52,6 +52,7 @@ use Rattle.usage_checks.proofs.OutlinesStay.{shaped}
 use Rattle.usage_checks.proofs.PlacesHold.{index_word, places_hold}
 use Rattle.usage_checks.proofs.RangesStay.{covers_as, covers_itself}
 use Rattle.code_pieces.specs.Pieces.{Code, closed_by, counted, word_after}
+use Rattle.code_pieces.proofs.AllOfPieces.{all_first, all_last}
 use Rattle.line_pieces.specs.Homes.{Nowhere}
 use Rattle.line_pieces.specs.Declarations.{facts_in, with_home}
 use Rattle.code_generator.specs.Processes.{NoChoice, PlacedChoices, Site, by_block, component_code, has_scalar, if_code}
@@ -64,7 +65,7 @@ use Rattle.meant_processes.specs.Premises.{ConditionsPush}
 use Rattle.meant_processes.proofs.Behaving.{no_pieces, row_before}
 use Rattle.meant_processes.proofs.Blocks.{if_behaves}
 use Rattle.meant_processes.proofs.Choices.{ending_means}
-use Rattle.meant_processes.proofs.CodeParts.{all_first, all_last, before_is, closed_is, written_is}
+use Rattle.meant_processes.proofs.CodeParts.{before_is, closed_is, written_is}
 use Rattle.meant_processes.proofs.LoopsDo.{loop_does}
 use Rattle.meant_processes.proofs.Placing.{Left}
 use Rattle.meant_processes.proofs.RepeatedIfs.{turns_mean}

@@ -30,6 +30,7 @@ use Rattle.usage_checks.proofs.RangesStay.{components_stay, covers_itself, decla
 use Rattle.usage_checks.proofs.RangesStay.{remains_low}
 use Rattle.code_pieces.specs.Pieces as pieces
 use Rattle.code_pieces.specs.Pieces.{Code, Row, before, then_code, written}
+use Rattle.code_pieces.proofs.AllOfPieces.{all_first, all_last}
 use Rattle.line_pieces.specs.Declarations.{declaration_code}
 use Rattle.code_generator.specs.Processes.{Site, at_place, component_code, components_code, construct_code}
 use Rattle.code_generator.specs.Processes.{process_code, with_declaration}
@@ -45,7 +46,7 @@ use Rattle.meant_processes.specs.Places.{AllFit, CarriedAt, FitsIn, IsPlaced, Pr
 use Rattle.meant_processes.specs.Premises.{DeclarationOpens, LinesBehave}
 use Rattle.meant_processes.proofs.Behaving.{no_pieces, pieces_as, pieces_both, pieces_well}
 use Rattle.meant_processes.proofs.Carried.{scope_left}
-use Rattle.meant_processes.proofs.CodeParts.{all_first, all_last, before_is, then_is, written_is}
+use Rattle.meant_processes.proofs.CodeParts.{before_is, then_is, written_is}
 use Rattle.meant_processes.proofs.Indices.{IndicesStay, action_leaves, indices_left, indices_same, indices_then}
 use Rattle.meant_processes.proofs.Indices.{shape_outermost}
 use Rattle.meant_processes.proofs.Lying.{apart_both, straight_lie}

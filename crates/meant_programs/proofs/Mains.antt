@@ -21,6 +21,7 @@ use Rattle.code_pieces.specs.Pieces.{Code, Piece, constant, operates}
 use Rattle.code_pieces.specs.Laying.{apart, apart_from, at_row_behind, draft_code, is_row, tables_before}
 use Rattle.code_pieces.specs.Laying.{words_taken}
 use Rattle.code_pieces.specs.LaidModule.{Says, laid_module}
+use Rattle.code_pieces.proofs.AllOfPieces.{all_first}
 use Rattle.code_generator.specs.Programs.{code_of}
 use Rattle.code_generator.specs.Processes.{Site, process_code}
 use Rattle.placed_code.specs.Behaves.{Finishes, over}
@@ -38,7 +39,7 @@ use Rattle.meant_code.proofs.OwnPrograms.{labels_stay_once}
 use Rattle.meant_processes.specs.Lying.{LieApart}
 use Rattle.meant_processes.specs.Places.{AllFit, CarriedAt, FitsIn, Program, ground, surroundings}
 use Rattle.meant_processes.proofs.Behaving.{goes_on_behind}
-use Rattle.meant_processes.proofs.CodeParts.{all_first, closed_is}
+use Rattle.meant_processes.proofs.CodeParts.{closed_is}
 use Rattle.meant_processes.proofs.Lying.{apart_both, pieces_lie_apart, straight_lie}
 use Rattle.meant_processes.proofs.Processes.{processes_behave}
 use Rattle.meant_runs.specs.MainsRun.{MainBehaves}

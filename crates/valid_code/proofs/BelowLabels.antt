@@ -1,6 +1,6 @@
 -- Lists of labels below a number, put together.
 use Rattle.std.proofs.Common.{ℕ, List, [], ◌∷◌, ◌++◌}
-use Rattle.valid_code.specs.WellFormed.{AreBelow}
+use Rattle.code_pieces.specs.WellFormed.{AreBelow}
 
 pub below_both : (n : ℕ) (ls ms : List ℕ) → AreBelow n ls → AreBelow n ms → AreBelow n (ls ++ ms)
 below_both n [] ms first second = second

@@ -1,4 +1,4 @@
--- What holds of pieces holds of them once their rows are kept apart, and the other way round.
+-- What holds of pieces holds of them once their rows are kept apart.
 use Rattle.std.proofs.Common.{Bool, true, false, cond, List, [], ◌∷◌, ◌++◌, pos}
 use Rattle.std.specs.Prelude.{◌&&◌}
 use Rattle.std.specs.List.{AllByRecursion}
@@ -17,17 +17,3 @@ apart_all P at_row [] fill all = tt
 apart_all P at_row (p ∷ ps) fill all =
     let next = at_row_behind p at_row in
     filled_all P (at_row && is_row p) p (apart_from next ps) fill all.0 (apart_all P next ps fill all.1)
-
-emptied_all : (P : Piece → Type 0) (b : Bool) (p : Piece) (rest : List Piece)
-    → AllByRecursion P (cond b (constant (pos 0) ∷ p ∷ []) (p ∷ []) ++ rest) → P p × AllByRecursion P rest
-emptied_all P true p rest all = all.1
-emptied_all P false p rest all = all
-
--- what holds of them once rows are kept apart holds of them before
-pub before_apart : (P : Piece → Type 0) (at_row : Bool) (ps : List Piece) → AllByRecursion P (apart_from at_row ps)
-    → AllByRecursion P ps
-before_apart P at_row [] all = tt
-before_apart P at_row (p ∷ ps) all =
-    let next = at_row_behind p at_row in
-    let both = emptied_all P (at_row && is_row p) p (apart_from next ps) all in
-    (both.0, before_apart P next ps both.1)

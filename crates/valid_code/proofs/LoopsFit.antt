@@ -16,12 +16,12 @@ use Rattle.scalar_ranges.specs.Moves.{is_one_of, widen, widened, widened_if}
 use Rattle.scalar_ranges.proofs.Numbered.{reverse_cons}
 use Rattle.program_meaning.specs.RangesWithin.{EntriesWithin, MeaningWithin, RangeWithin, ScalarWithin}
 use Rattle.code_pieces.specs.declared.piece.RowEntry.{RowEntry}
+use Rattle.code_pieces.proofs.AllOfPieces.{all_both}
 use Rattle.line_pieces.specs.Homes.{Block, Home, Word, count_in, facts_at, facts_from}
 use Rattle.valid_code.specs.Numbers.{HasNumbers, HaveNumbers}
 use Rattle.valid_code.specs.ValidPieces.{IsSayable}
-use Rattle.valid_code.specs.WellFormed.{AreBelow, heads_of}
+use Rattle.code_pieces.specs.WellFormed.{AreBelow, heads_of}
 use Rattle.valid_code.proofs.BoundsOfNumbers.{all_words}
-use Rattle.valid_code.proofs.ScopesInTurn.{all_both}
 
 -- ---- indices
 

@@ -49,6 +49,7 @@ use Rattle.code_pieces.specs.declared.operations.TheConstants.{STOP_PROCESS}
 use Rattle.code_pieces.specs.Pieces.{Code, Direct, Jump, JumpUnless, Piece, TableAddress, before, closed_by}
 use Rattle.code_pieces.specs.Pieces.{operates, then_code}
 use Rattle.code_pieces.specs.Laying.{words_taken}
+use Rattle.code_pieces.proofs.AllOfPieces.{all_both, all_first, all_last}
 use Rattle.line_pieces.specs.Actions.{assign_code, forgets, input_code, may_show, output_code, test_code}
 use Rattle.line_pieces.specs.Declarations.{Frame, declaration_code, facts_in, home_for, with_block, with_home}
 use Rattle.line_pieces.specs.Expressions.{expression_code}
@@ -71,7 +72,7 @@ use Rattle.meant_code.proofs.StraightLines.{assign_is, declaration_is, expressio
 use Rattle.meant_code.proofs.StraightLines.{loop_start_is, output_is}
 use Rattle.valid_code.specs.ValidPieces.{InTurn}
 use Rattle.valid_code.specs.RowsInTurn.{IsRowInTurn, RowsAreInTurn}
-use Rattle.valid_code.proofs.ScopesInTurn.{IsPlaced, Names, all_both, all_first, all_second, block_placed}
+use Rattle.valid_code.proofs.ScopesInTurn.{IsPlaced, Names, block_placed}
 use Rattle.valid_code.proofs.ScopesInTurn.{declared_placed, elsewhere_placed, named_after, row_in_turn, row_in_turn_more}
 use Rattle.valid_code.proofs.ScopesInTurn.{shape_placed}
 
@@ -156,7 +157,7 @@ module _ (words : ℕ) (few : words ≤ MAX_DATA_WORDS) where
   before_good ps (Some c) rows good =
       λ names.
       let first = all_first (NamesBelow words) ps c.pieces names in
-      all_both (IsRowInTurn words) ps c.pieces (rows first) (good first (all_second (NamesBelow words) ps c.pieces names))
+      all_both (IsRowInTurn words) ps c.pieces (rows first) (good first (all_last (NamesBelow words) ps c.pieces names))
 
   closed_good : (ps : List Piece) (code : Option Code) → Rows ps → Good code → Good (closed_by ps code)
   closed_good ps None rows good = tt

@@ -68,6 +68,7 @@ use Rattle.code_pieces.specs.declared.operations.TheConstants.{STOP_PROCESS}
 use Rattle.code_pieces.specs.declared.piece.RowEntry.{RowEntry}
 use Rattle.code_pieces.specs.Pieces.{Code, Direct, Jump, JumpUnless, Piece, Row, TableAddress, before, closed_by, operates}
 use Rattle.code_pieces.specs.Pieces.{then_code, word_after}
+use Rattle.code_pieces.proofs.AllOfPieces.{all_both}
 use Rattle.line_pieces.specs.Actions.{assign_code, forgets, input_code, may_show, output_code, test_code}
 use Rattle.line_pieces.specs.Declarations.{Frame, channels_in, declaration_code, declared, facts_in, home_for, with_home}
 use Rattle.line_pieces.specs.Declarations.{with_names, with_words, words_in}
@@ -93,7 +94,7 @@ use Rattle.meant_code.proofs.StraightLines.{loop_start_is, output_is}
 use Rattle.valid_code.specs.Numbers.{HasNumbers, HaveNumbers}
 use Rattle.valid_code.specs.RowsSaid.{RowsAreSaid, SaysWords}
 use Rattle.valid_code.specs.ValidPieces.{AreSayable}
-use Rattle.valid_code.specs.WellFormed.{AreBelow, heads_of, heads_said}
+use Rattle.code_pieces.specs.WellFormed.{AreBelow, heads_of, heads_said}
 use Rattle.valid_code.proofs.BelowLabels.{below_both, below_first, below_second}
 use Rattle.valid_code.proofs.BoundsOfNumbers.{of_a_type}
 use Rattle.valid_code.proofs.LoopsFit.{IndicesWithin, IsSaidWell, LoopFits, LoopsFit, indices_itself, indices_long}
@@ -102,7 +103,6 @@ use Rattle.valid_code.proofs.MovesOfNumbers.{channel_has, moves_keep_numbers, va
 use Rattle.valid_code.proofs.NumbersStay.{AllKeep, KeepsIn, all_keep, body_ends, choices_end, choices_have, choices_keep}
 use Rattle.valid_code.proofs.NumbersStay.{choices_low, components_keep, one_keeps, turns_keep}
 use Rattle.valid_code.proofs.RowsInTurn.{chosen_low}
-use Rattle.valid_code.proofs.ScopesInTurn.{all_both}
 
 -- what a row says can be said, and the heads of its loops are below this label
 abbrev SaysWell : ℕ → Piece → Type 0

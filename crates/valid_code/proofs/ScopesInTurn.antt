@@ -25,6 +25,7 @@ use Rattle.program_uses.specs.Declaring.{channel_meaning}
 use Rattle.code_pieces.specs.declared.piece.RowEntry.{RowEntry}
 use Rattle.code_pieces.specs.declared.words.TheConstants.{GREATEST_WORD}
 use Rattle.code_pieces.specs.Pieces.{Piece, counted, word_after}
+use Rattle.code_pieces.proofs.AllOfPieces.{all_first, all_last}
 use Rattle.line_pieces.specs.Homes.{Home, Nowhere, Word, Block, words_for, facts_at, facts_from, facts_of}
 use Rattle.line_pieces.specs.Declarations.{Frame, with_words, with_home, with_names, home_for, words_in, channels_in}
 use Rattle.line_pieces.specs.Declarations.{facts_in, declared, zero_code, zero_names, declaration_code}
@@ -256,19 +257,6 @@ whole_after words word count few less = omega (arith, few, less)
 
 -- ---- declarations
 
-pub all_first : {A : Type 0} (P : A → Type 0) (xs ys : List A) → AllByRecursion P (xs ++ ys) → AllByRecursion P xs
-all_first P [] ys all = tt
-all_first P (x ∷ xs) ys all = (all.0, all_first P xs ys all.1)
-
-pub all_second : {A : Type 0} (P : A → Type 0) (xs ys : List A) → AllByRecursion P (xs ++ ys) → AllByRecursion P ys
-all_second P [] ys all = all
-all_second P (x ∷ xs) ys all = all_second P xs ys all.1
-
-pub all_both : {A : Type 0} (P : A → Type 0) (xs ys : List A) → AllByRecursion P xs → AllByRecursion P ys
-    → AllByRecursion P (xs ++ ys)
-all_both P [] ys first second = second
-all_both P (x ∷ xs) ys first second = (first.0, all_both P xs ys first.1 second)
-
 -- an array has an element
 positive_by : (b : Bool) (v : ℤ) (n : ℕ) → int_le (pos 1) v ≡ b → cond b (Some (unsigned_abs v)) None ≡ Some n → 1 ≤ n
 positive_by true (pos k) n up is =
@@ -334,7 +322,7 @@ module _ (words : ℕ) (few : words ≤ MAX_DATA_WORDS) where
       let rest = zero_names size count names (word_after f.top count) in
       variables_placed names (with_words count f) (add name (variable_meaning outer type size) es) outer type size
       (variable_placed f es outer name type size placed (all_first (NamesBelow words) first rest named))
-      (all_second (NamesBelow words) first rest named)
+      (all_last (NamesBelow words) first rest named)
 
   channels_placed : (names : List (List ℕ)) (f : Frame) (es : List Entry) (m : Meaning) (count : ℕ)
       → ((w : ℕ) → facts_at (Word w) m ≡ []) → IsPlaced words f es

@@ -1,6 +1,6 @@
 -- The pieces of sequential programs are well formed: labels that are named are there, and words are few.
 use Rattle.std.proofs.Common.{◌≡◌, ℕ, ◌+◌, ◌<◌, ◌≤◌, Bool, true, false, cond, List, [], ◌∷◌, ◌++◌, refl}
-use Rattle.std.proofs.Common.{sym, arith, append-nil, Some}
+use Rattle.std.proofs.Common.{◌⊎◌, inl, inr, Option, Some, None, sym, ap, arith, append-nil}
 use Rattle.std.specs.Prelude.{nat_eq}
 use Rattle.std.specs.List.{AllByRecursion}
 use Rattle.std.specs.Option.{option_to_list}
@@ -17,16 +17,15 @@ use Rattle.code_pieces.specs.Placing.{label_in}
 use Rattle.code_pieces.specs.Laying.{apart, words_taken}
 use Rattle.code_generator.specs.Programs.{code_of}
 use Rattle.placed_code.specs.LaidCode.{labels_in}
-use Rattle.meant_code.specs.Labels.{AllLead, ArePlain, IsPlain, Leads, times_in}
+use Rattle.meant_code.specs.Labels.{AllLead, ArePlain, EachOnce, IsPlain, Leads, times_in}
 use Rattle.meant_code.proofs.AmongOthers.{parts_stay_parts}
 use Rattle.meant_code.proofs.LabelLists.{once_below}
 use Rattle.meant_code.proofs.OwnPrograms.{programs_are_own}
 use Rattle.valid_code.specs.RowsInTurn.{IsRowInTurn}
 use Rattle.valid_code.specs.RowsSaid.{SaysWords}
 use Rattle.valid_code.specs.ValidPieces.{InTurn}
-use Rattle.valid_code.specs.WellFormed.{AreBelow, HaveFewWords, HeadsAreBelow, IsOfOneProcess, OperandsAreWords}
-use Rattle.valid_code.specs.WellFormed.{ProgramsAreWellFormed, labels_named}
-use Rattle.valid_code.specs.WholeDrafts.{AreNamed}
+use Rattle.code_pieces.specs.WellFormed.{AreBelow, AreNamed, HaveFewWords, IsOfOneProcess, IsPlacedIn, labels_named}
+use Rattle.valid_code.specs.WellFormed.{HeadsAreBelow, OperandsAreWords, ProgramsAreWellFormed}
 use Rattle.valid_code.proofs.BelowLabels.{below_both, below_first, below_second}
 use Rattle.valid_code.proofs.KeptApart.{apart_all}
 use Rattle.valid_code.proofs.RowsInTurn.{rows_are_in_turn}
@@ -71,6 +70,26 @@ all_named n before (p ∷ ps) plain front below heads lead =
           lead.0,
       all_named n (own ++ before) ps plain.1 (below_both n own before mine front) rest heads.1 lead.1,
     )
+
+-- a label that is among those that pieces place is placed in them
+placed_by : (b : Bool) (l m : ℕ) (ps : List Piece) → nat_eq l m ≡ b → 1 ≤ cond b 1 0 + times_in l (labels_in ps)
+    → (1 ≤ times_in l (labels_in ps) → IsPlacedIn l ps) → (Some m ≡ Some l) ⊎ IsPlacedIn l ps
+placed_by true l m ps is there others = inl (ap Some (sym (eqb-true l m is)))
+placed_by false l m ps is there others = inr (others (omega (arith, there)))
+
+placed_first : (o : Option ℕ) (l : ℕ) (ps : List Piece) → 1 ≤ times_in l (option_to_list o ++ labels_in ps)
+    → (1 ≤ times_in l (labels_in ps) → IsPlacedIn l ps) → (o ≡ Some l) ⊎ IsPlacedIn l ps
+placed_first None l ps there others = inr (others there)
+placed_first (Some m) l ps there others = placed_by (nat_eq l m) l m ps refl there others
+
+placed_in : (l : ℕ) (ps : List Piece) → 1 ≤ times_in l (labels_in ps) → IsPlacedIn l ps
+placed_in l [] there = absurd (omega (arith, there))
+placed_in l (p ∷ ps) there = placed_first (label_in p) l ps there (placed_in l ps)
+
+each_placed : (labels : ℕ) (ps : List Piece) → EachOnce 0 labels (labels_in ps) → (l : ℕ) → l < labels
+    → IsPlacedIn l ps
+each_placed labels ps once l less =
+    let here = once.inside l (omega arith) less in placed_in l ps (omega (arith, here))
 
 -- ---- words of rows
 
@@ -131,7 +150,7 @@ programs_are_well_formed items c seq unbroken literals is few =
     let ps = c.pieces in
     let own = (programs_are_own items c is).1 in
     record {
-      placed = λ l less. (let once = own.once.inside l (omega arith) less in omega (arith, once));
+      placed = each_placed c.labels (apart ps) own.once;
       named = names_are_there items c seq unbroken literals is;
       alone = all_of_one (apart ps) own.plain;
       words = apart_all HaveFewWords true ps tt

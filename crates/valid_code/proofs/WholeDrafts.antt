@@ -28,8 +28,8 @@ use Rattle.code_pieces.specs.Pieces.{Piece, Direct, Jump, JumpUnless, LoopBack, 
 use Rattle.code_pieces.specs.Pieces.{TableAddress, Row, Place, Within, Par}
 use Rattle.meant_code.specs.Labels.{ArePlain}
 use Rattle.meant_code.proofs.OwnPrograms.{programs_are_own}
-use Rattle.valid_code.specs.WellFormed.{AreBelow, labels_named}
-use Rattle.valid_code.specs.WholeDrafts.{AreNamed, CodeIsComplete, DraftsAreWhole, SequentialDraftsAreWhole}
+use Rattle.code_pieces.specs.WellFormed.{AreBelow, AreNamed, labels_named}
+use Rattle.valid_code.specs.WholeDrafts.{CodeIsComplete, DraftsAreWhole, SequentialDraftsAreWhole}
 use Rattle.valid_code.proofs.ValidDrafts.{all_before, none_drafted}
 use Rattle.valid_code.proofs.WellFormed.{names_are_there}
 

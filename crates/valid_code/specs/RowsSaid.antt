@@ -8,7 +8,7 @@ use Rattle.usage_checks.specs.ItemRules.{BreaksNoRule}
 use Rattle.code_pieces.specs.Pieces.{Piece, Row, Code}
 use Rattle.code_generator.specs.Programs.{code_of}
 use Rattle.valid_code.specs.ValidPieces.{AreSayable}
-use Rattle.valid_code.specs.WellFormed.{AreBelow, heads_said}
+use Rattle.code_pieces.specs.WellFormed.{AreBelow, heads_said}
 
 -- A file can say what a row says, and the heads of its loops are below this label.
 abbrev pub SaysWords : ℕ → Piece → Type 0

@@ -1,6 +1,5 @@
 -- The drafts of pieces are whole: each label that an instruction, the header or a row refers to is placed.
 use Rattle.std.specs.Prelude.{◌≡◌, ℕ, true, List, [], Some}
-use Rattle.std.specs.List.{AllByRecursion}
 use Rattle.module_builder.specs.declared.draft.Draft.{Draft}
 use Rattle.module_builder.specs.Drafts.{IsComplete}
 use Rattle.module_builder.specs.Whole.{IsWhole}
@@ -12,11 +11,7 @@ use Rattle.code_pieces.specs.Pieces.{Piece, Code}
 use Rattle.code_pieces.specs.Laying.{apart, draft_code, pars_of}
 use Rattle.code_pieces.specs.Laid.{IsLaidOut}
 use Rattle.code_generator.specs.Programs.{code_of}
-use Rattle.valid_code.specs.WellFormed.{AreBelow, labels_named}
-
--- each label that pieces name is one of these
-abbrev pub AreNamed : ℕ → List Piece → Type 0
-AreNamed labels ps = AllByRecursion (λ p. AreBelow labels (labels_named p)) ps
+use Rattle.code_pieces.specs.WellFormed.{AreNamed}
 
 -- The code of such pieces is complete.
 abbrev pub CodeIsComplete : Type 0

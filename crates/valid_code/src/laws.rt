@@ -1,7 +1,7 @@
 //! The laws of valid modules, each the contract of a function that does nothing.
 
 ghost use Rattle.valid_code.specs.Numbers.{BoundsHaveNumbers, MovesKeepNumbers};
-ghost use Rattle.valid_code.specs.Refused.{ProgramsAreNotRefused};
+ghost use Rattle.valid_code.specs.Refused.{ProgramsAreNotRefused, ProgramsAreMade};
 ghost use Rattle.valid_code.specs.RowsInTurn.{RowsAreInTurn};
 ghost use Rattle.valid_code.specs.RowsSaid.{RowsAreSaid};
 ghost use Rattle.valid_code.specs.ValidDrafts.{DraftsAreValid, SequentialDraftsAreValid};
@@ -54,9 +54,10 @@ pub fn programs_are_well_formed()
 {}
 
 /// No draft of the pieces of such a program is refused for a label that is placed nowhere or for tables that are not
-/// valid.
+/// valid, if the values of its tables are words. So its pieces are not invalid.
 pub fn programs_are_not_refused()
-    ensures { ProgramsAreNotRefused }
+    ensures refused { ProgramsAreNotRefused }
+    ensures made { ProgramsAreMade }
 {}
 
 /// Where the range of each name has numbers, so has that of an expression, and each move of the walk over a sequential

@@ -17,4 +17,5 @@ returns-in_err-bytes-clause-refused c =
     (subst (λ xs. IsProgram (rows_of c.deref.result.now) (map item_of xs)) (sym c.in_ok-checked.ensures.ok)
     c.in_ok-program.ensures.found))
     checked.unbroken
-    (λ is sequential. c.in_err-bytes.ensures.limit (ap Err is) sequential))
+    (λ is sequential. c.in_err-bytes.ensures.limit (ap Err is) sequential)
+    (λ is sequential. c.in_err-bytes.ensures.invalid (ap Err is) sequential))

@@ -31,9 +31,10 @@ use Rattle.code_pieces.specs.Pieces.{Code}
 use Rattle.line_pieces.specs.Homes.{Nowhere}
 use Rattle.line_pieces.specs.Declarations.{Frame, declared, with_home}
 use Rattle.code_generator.specs.Calls.{Callee, where_called}
-use Rattle.code_generator.specs.Programs.{framed, callable, items_code, main_code}
+use Rattle.code_generator.specs.Programs.{framed, callable, code_of, items_code, main_code, no_frame}
 use Rattle.meant_programs.specs.Mains.{before_main}
 use Rattle.meant_programs.proofs.Globals.{Before, weighed_before, item_after, procedure_leaves, last_of}
+use Rattle.meant_programs.proofs.Globals.{last_is_main}
 
 -- ---- items
 
@@ -196,7 +197,7 @@ module _ (items : List ProgramItem) (none : BreaksNoRule items) (Holds : Frame �
     has_words = found.has_words;
   }
 
-  pub find : (before : Outside) (item : ProgramItem) (rest : List ProgramItem) (env : Environment) (cs : List Callee)
+  find : (before : Outside) (item : ProgramItem) (rest : List ProgramItem) (env : Environment) (cs : List Callee)
       (f : Frame) (code : Code) → Stands before item rest f env → items_code item rest cs before f ≡ Some code
       → FoundFrom item rest env code
   find before (GlobalConstant c) [] env cs f code stands is = absurd stands.sequential
@@ -212,3 +213,19 @@ module _ (items : List ProgramItem) (none : BreaksNoRule items) (Holds : Frame �
       (λ inner declares after.
       find (after_item item before) next rest inner (callable item (length f.homes) cs) (framed item before f) code
       (stands_next before item next rest f env inner stands declares after) is))
+
+-- Main of a sequential program that breaks no rule is found from its first item on, if this holds before that.
+pub find_main : (item : ProgramItem) (rest : List ProgramItem) (none : BreaksNoRule (item ∷ rest))
+    (Holds : Frame → List Entry → Environment → Type 0) (on : GoesOn Holds) (code : Code)
+    → IsSequentialProgram (item ∷ rest) → items_have_words (item ∷ rest) ≡ true → code_of (item ∷ rest) ≡ Some code
+    → Holds no_frame [] [] → FoundFrom (item ∷ rest) none Holds on item rest [] code
+find_main item rest none Holds on code sequential has_words is holds =
+    find (item ∷ rest) none Holds on outermost item rest [] [] no_frame code (record {
+      unbroken = λ f x. none f (inl x);
+      comes = λ o x h. h;
+      main = last_is_main item rest none;
+      sequential = sequential;
+      has_words = has_words;
+      truth = record { holds = record { meets = tt; typed = tt }; global = tt; blocks = refl; counted = refl };
+      holds = holds;
+    }) is
