@@ -1,6 +1,5 @@
 -- Main is found, with the scope before it: memory carries its names, and it says nothing of words.
 use Rattle.std.proofs.Common.{◌≡◌, ℕ, true, List, [], ◌∷◌, Some, refl, ap, arith, ◌∙◌, slice_get}
-use Rattle.std.specs.List.{AllByRecursion}
 use Rattle.machine_state.specs.Memory.{Memory}
 use Rattle.occam_parser.specs.declared.tree.ValueType.{ValueType}
 use Rattle.occam_parser.specs.Lines as lines
@@ -9,10 +8,8 @@ use Rattle.occam_parser.specs.Blocks.{ProgramItem}
 use Rattle.occam_parser.specs.Words.{declaration_has_words}
 use Rattle.scalar_ranges.specs.Entries as entries
 use Rattle.scalar_ranges.specs.Entries.{Meaning, Entry}
-use Rattle.scalar_ranges.specs.Environments.{Nothing, Environment}
+use Rattle.scalar_ranges.specs.Environments.{Environment}
 use Rattle.program_uses.specs.Declaring.{add, add_declaration}
-use Rattle.program_meaning.specs.GoingWell.{IsTrueIn}
-use Rattle.program_meaning.specs.Storing.{bind, declare}
 use Rattle.usage_checks.specs.Holding.{DeclarationHolds}
 use Rattle.usage_checks.specs.TypedRanges.{AreInTypes}
 use Rattle.usage_checks.proofs.TypedMoves.{declared_typed}
@@ -34,7 +31,6 @@ use Rattle.certified_scopes.proofs.Kept.{declared_names_are_held, new_names_are_
 use Rattle.certified_scopes.proofs.Settled.{beginnings_are_settled, declarations_are_settled}
 use Rattle.certified_scopes.proofs.Settled.{wordless_names_are_settled}
 use Rattle.certified_programs.specs.Mains.{MainIsSettled, SaysNothing}
-
 
 -- ---- ranges
 

@@ -1,46 +1,32 @@
 -- Main is found, with what memory carries of the names before it.
-use Rattle.std.proofs.Common.{◌≡◌, ℕ, Bool, true, List, [], ◌∷◌, length, Option}
-use Rattle.std.proofs.Common.{Some, None, inl, inr, refl, sym, ap, subst, arith, ◌∙◌, IsSomeAnd}
-use Rattle.std.proofs.lemmas.Bool.{and_parts}
+use Rattle.std.proofs.Common.{◌≡◌, ℕ, true, List, [], ◌∷◌, length}
+use Rattle.std.proofs.Common.{Some, refl, sym, subst, arith}
 use Rattle.std.proofs.lemmas.List.{length-append}
-use Rattle.std.specs.List.{AllByRecursion, list_all}
+use Rattle.std.specs.List.{AllByRecursion}
 use Rattle.std.specs.Prelude.{pos}
-use Rattle.machine_state.specs.Memory.{Memory, byte_at}
+use Rattle.machine_state.specs.Memory.{Memory}
 use Rattle.module_format.specs.Stack.{of_empty}
 use Rattle.occam_parser.specs.Lines as lines
 use Rattle.occam_parser.specs.Lines.{Formal}
-use Rattle.occam_parser.specs.Blocks.{Procedure, ProgramItem, GlobalConstant, GlobalProcedure}
-use Rattle.occam_parser.specs.Words.{declaration_has_words, formal_has_words, process_has_words, item_has_words, items_have_words}
+use Rattle.occam_parser.specs.Blocks.{ProgramItem}
+use Rattle.occam_parser.specs.Words.{declaration_has_words}
 use Rattle.scalar_ranges.specs.declared.scope.ArrayKind.TheVariants as array
 use Rattle.scalar_ranges.specs.Entries as entries
 use Rattle.scalar_ranges.specs.Entries.{Meaning, Entry}
-use Rattle.scalar_ranges.specs.Environments.{Nothing, Environment, Meets}
-use Rattle.scalar_ranges.specs.Moves.{Known}
+use Rattle.scalar_ranges.specs.Environments.{Nothing, Environment}
 use Rattle.scalar_ranges.specs.MoveLaws.{shape}
 use Rattle.program_uses.specs.Declaring.{add, add_declaration}
-use Rattle.program_meaning.specs.Links.{Links}
-use Rattle.program_meaning.specs.Meaning.{in_main, declare_item, run_items}
-use Rattle.program_meaning.specs.Running.{or_stuck}
 use Rattle.program_meaning.specs.Storing.{bind, declare}
-use Rattle.program_meaning.specs.Sequential.{IsSequential, IsSequentialProgram}
-use Rattle.usage_checks.specs.BrokenInTurn.{BreaksInTurn}
-use Rattle.usage_checks.specs.ItemRules.{Outside, outermost, around_in, after_weighing, weighed, after_item, BreaksItem}
-use Rattle.usage_checks.specs.ItemRules.{BreaksNoRule, after_procedure, after_walk}
+use Rattle.usage_checks.specs.ItemRules.{BreaksNoRule}
 use Rattle.usage_checks.specs.Holding.{DeclarationHolds}
 use Rattle.program_meaning.specs.GoingWell.{IsTrueIn}
-use Rattle.usage_checks.specs.MainRules.{is_main, is_main_name, are_links}
-use Rattle.usage_checks.specs.Reaching.{Comes}
-use Rattle.usage_checks.specs.Sizes.{Measured, measures_of_item}
-use Rattle.usage_checks.proofs.PlacesHold.{Unbroken, items_hold}
 use Rattle.usage_checks.proofs.ProcessesGoWell.{known_declaration}
 use Rattle.code_pieces.specs.Pieces.{Code, Piece}
 use Rattle.line_pieces.specs.Homes.{Nowhere}
 use Rattle.line_pieces.specs.Declarations.{Frame, declared, with_home, home_for}
-use Rattle.code_generator.specs.Calls.{Callee, where_called}
-use Rattle.code_generator.specs.Programs.{framed, callable, items_code, main_code, first_word, no_frame}
+use Rattle.code_generator.specs.Programs.{first_word}
 use Rattle.placed_code.specs.StraightPieces as pieces
 use Rattle.placed_code.specs.StraightPieces.{Footing, LeadOn, done}
-use Rattle.meant_lines.specs.Words.{ChangesWithin}
 use Rattle.meant_lines.specs.Carrying.{Carries}
 use Rattle.meant_lines.specs.Opening.{Opened}
 use Rattle.meant_lines.proofs.Leaving.{wordless_names_are_carried}
@@ -64,7 +50,7 @@ fixed_here (entries.Scalar kind type range) is = absurd is
 fixed_here (entries.Channel type) is = absurd is
 fixed_here (entries.Channels type size) is = absurd is
 
-all_fixed : (es : List Entry) → AllByRecursion (λ e. IsGlobal e.meaning) es → AllByRecursion (λ e. IsFixed e.meaning) es
+pub all_fixed : (es : List Entry) → AllByRecursion (λ e. IsGlobal e.meaning) es → AllByRecursion (λ e. IsFixed e.meaning) es
 all_fixed [] all = tt
 all_fixed (e ∷ es) all = (fixed_here e.meaning all.0, all_fixed es all.1)
 
@@ -119,37 +105,38 @@ module _ (footing : Footing) (words : ℕ) (whole : List Piece) (m : Memory) whe
 
 module _ (footing : Footing) (words : ℕ) (whole : List Piece) (m : Memory)
     (Holds : Frame → List Entry → Environment → Type 0) (on : GoesOn Holds)
-    (carried : (f : Frame) (es : List Entry) (env : Environment) → Holds f es env → Carried footing words whole m f es env)
-    where
-  -- main, where what holds before it says what memory carries
-  pub main_found : (item : ProgramItem) (rest : List ProgramItem) (none : BreaksNoRule (item ∷ rest)) (code : Code)
-      → FoundFrom (item ∷ rest) none Holds on item rest [] code
-      → FoundMain (item ∷ rest) footing words whole m code
-  main_found item rest none code found =
-      let known = found.outside.known in
-      let c = carried found.frame known.entries found.names found.holds in
-      record {
-        outside = found.outside;
-        procedure = found.procedure;
-        callees = found.callees;
-        frame = found.frame;
-        names = found.names;
-        comes = found.comes;
-        runs = found.runs;
-        is = found.is;
-        holds = found.truth.holds;
-        own = subst (λ (T : Type 0). T) (all_own (shape known.entries)) (globals_own known.entries found.truth.global);
-        fixed = all_fixed known.entries found.truth.global;
-        blocks = found.truth.blocks;
-        counted = found.truth.counted;
-        long = c.long;
-        top = c.top;
-        carries = c.carries;
-        named = found.named;
-        links = found.links;
-        sequential = found.sequential;
-        has_words = found.has_words;
-      }
+    (carried : (f : Frame) (es : List Entry) (env : Environment) → Holds f es env
+    → Carried footing words whole m f es env)
+  where
+    -- main, where what holds before it says what memory carries
+    abbrev pub main_found : (item : ProgramItem) (rest : List ProgramItem) (none : BreaksNoRule (item ∷ rest))
+        (code : Code) → FoundFrom (item ∷ rest) none Holds on item rest [] code
+        → FoundMain (item ∷ rest) footing words whole m code
+    main_found item rest none code found =
+        let known = found.outside.known in
+        let c = carried found.frame known.entries found.names found.holds in
+        record {
+          outside = found.outside;
+          procedure = found.procedure;
+          callees = found.callees;
+          frame = found.frame;
+          names = found.names;
+          comes = found.comes;
+          runs = found.runs;
+          is = found.is;
+          holds = found.truth.holds;
+          own = subst (λ (T : Type 0). T) (all_own (shape known.entries)) (globals_own known.entries found.truth.global);
+          fixed = all_fixed known.entries found.truth.global;
+          blocks = found.truth.blocks;
+          counted = found.truth.counted;
+          long = c.long;
+          top = c.top;
+          carries = c.carries;
+          named = found.named;
+          links = found.links;
+          sequential = found.sequential;
+          has_words = found.has_words;
+        }
 
 pub main_is_found : MainIsFound
 main_is_found [] code footing words whole m none sequential has_words is carries = absurd sequential
