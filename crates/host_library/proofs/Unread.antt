@@ -46,3 +46,9 @@ pub unread_for_memory : {A : Type 0} (holds : HostFailure → Type 0) → holds 
     → IsErrAnd result (λ failure. failure ≡ failure_of_file fault) → IfErr result holds
 unread_for_memory holds memory fault short (Ok x) is = absurd is
 unread_for_memory holds memory fault short (Err failure) is = rw is (rw short memory)
+
+-- a failure that says that memory ran out says no more
+pub memory_alone : {A : Type 0} (result : Result A HostFailure) → IsErrAnd result (λ failure. failure ≡ Memory)
+    → IfErr result (λ failure. failure ≡ Memory)
+memory_alone (Ok x) is = absurd is
+memory_alone (Err failure) is = is

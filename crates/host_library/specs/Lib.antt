@@ -2,3 +2,4 @@ pub mod Files
 pub mod Events
 pub mod Failures
 pub mod Replays
+pub mod Machines

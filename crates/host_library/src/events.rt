@@ -59,7 +59,7 @@ impl HostEvent {
     ghost use Rattle.host_library.specs.Events.{event_of};
 
     /// The event, if it is one.
-    fn event(&self) -> Option<Event>
+    pub fn event(&self) -> Option<Event>
         ensures { result ≡ event_of self.now }
     {
         match self.kind {

@@ -1,28 +1,36 @@
-//! What hosts call to verify a module, and to replay a run of it. Each call works over the caller's memory alone, and
-//! keeps nothing. `hosts/tpm.h` declares them for C, and says what each pointer has to be.
+//! What hosts call to verify a module, to replay a run of it, and to load it into a machine and step that. Only a
+//! machine that is loaded has memory of its own. `hosts/tpm.h` declares the calls for C, and says what each pointer has
+//! to be.
 #![tactic(auto)]
 
+mod effects;
 mod events;
 mod failure;
 mod judging;
 mod replaying;
 mod status;
+mod stepping;
 #[cfg(test)]
 mod tests;
 
-ghost use Rattle.std.specs.Prelude.{◌≡◌, ◌≢◌, ◌≤◌, ◌<◌, length};
+ghost use Rattle.std.specs.Prelude.{◌≡◌, ◌≢◌, ◌≤◌, ◌<◌, ◌⊎◌, length, None, IsSomeAnd};
 ghost use Rattle.module_format.specs.Contents.{Contents};
 ghost use Rattle.module_format.specs.Keeping.{Format};
 ghost use Rattle.certified_worlds.specs.Certified.{IsCertified};
 ghost use Rattle.host_library.specs.Files.{IsCertifiedFile, IsNoFile, IsRefusedFile};
-ghost use Rattle.host_library.specs.Events.{IsNoEvent};
+ghost use Rattle.host_library.specs.Events.{IsNoEvent, event_of};
 ghost use Rattle.host_library.specs.Replays.{HasReplayed, IsHandedOver};
+ghost use Rattle.host_library.specs.Machines.{IsLoaded, Moves, HasHappened, HasProgressed, IsState};
+ghost use Rattle.kept_runs.specs.Machine.{held_in};
 
+use effects::{HostEffect, HostProgress, HostState, effect_of, progress_of};
 use events::HostEvent;
 use judging::budget_of;
+use kept_runs::HostMachine;
 use replaying::{HostReport, hand_over, run_of};
-use status::{ACCEPTED, NO_EVENT, NO_MODULE, NOT_CERTIFIED, OUT_OF_MEMORY, TOO_SMALL};
+use status::{ACCEPTED, NO_EVENT, NO_MODULE, NOT_CERTIFIED, NOT_LOADED, OUT_OF_MEMORY, TOO_SMALL};
 use std::alloc::Global;
+use stepping::{loaded_run, state_of};
 
 /// Whether the bytes are the file of a certified module, by a status. `ACCEPTED`: they are, and its budget is written.
 /// `NO_MODULE`: they are no module file, and the number and the offset of their first fault are written.
@@ -94,4 +102,140 @@ pub extern "C" fn tpm_replay(
         }
         Err(failure) => failure.tell(number, offset),
     }
+}
+
+/// Loads the module in these bytes into a machine, by a status. `ACCEPTED`: the machine is that module before any
+/// event.
+/// `NO_MODULE`, `NOT_CERTIFIED` and `OUT_OF_MEMORY`: as of `tpm_verify`, and the machine is as before. Nothing else is
+/// written. A machine that was loaded before is freed at `ACCEPTED`.
+#[unsafe(no_mangle)]
+pub extern "C" fn tpm_load(
+    alloc: Global,
+    bytes: &[u8],
+    machine: &mut HostMachine,
+    number: &mut u8,
+    offset: &mut usize,
+) -> u8
+    ensures statuses { result ≤ OUT_OF_MEMORY }
+    ensures accepted { result ≡ ACCEPTED → IsCertifiedFile bytes.now
+        (λ m. IsSomeAnd (held_in machine.new) (IsLoaded m)) }
+    ensures no_module { result ≡ NO_MODULE → IsNoFile bytes.now number.new offset.new }
+    ensures not_certified { result ≡ NOT_CERTIFIED → IsRefusedFile bytes.now number.new offset.new }
+    // A certified module is accepted, unless memory runs out.
+    ensures refuses_no_certified_module { (m : Contents) → Format bytes.now m → IsCertified m
+        → result ≢ ACCEPTED → result ≡ OUT_OF_MEMORY }
+    ensures same_machine { result ≢ ACCEPTED → held_in machine.new ≡ held_in machine.old }
+    ensures same_number { result ≢ NO_MODULE → result ≢ NOT_CERTIFIED → number.new ≡ number.old }
+    ensures same_offset { result ≢ NO_MODULE → result ≢ NOT_CERTIFIED → offset.new ≡ offset.old }
+{
+    match loaded_run(alloc, bytes) {
+        Ok(run) => {
+            machine.take(alloc);
+            machine.put(run);
+            ACCEPTED
+        }
+        Err(failure) => failure.tell(number, offset),
+    }
+}
+
+/// Frees what is loaded into a machine, if something is.
+#[unsafe(no_mangle)]
+pub extern "C" fn tpm_free(alloc: Global, machine: &mut HostMachine)
+    ensures { held_in machine.new ≡ None }
+{
+    machine.take(alloc);
+}
+
+/// One event of a machine, by a status. `ACCEPTED`: it happened, and what it did is written to `effect`. `NO_EVENT`: it
+/// is no event. `NOT_LOADED`: no module is loaded. Then nothing is written, and the machine is as before.
+#[unsafe(no_mangle)]
+pub extern "C" fn tpm_step(
+    alloc: Global,
+    machine: &mut HostMachine,
+    event: &HostEvent,
+    effect: &mut HostEffect,
+) -> u8
+    ensures statuses { (result ≡ ACCEPTED) ⊎ ((result ≡ NO_EVENT) ⊎ (result ≡ NOT_LOADED)) }
+    ensures accepted { result ≡ ACCEPTED → IsSomeAnd (event_of event.now)
+        (λ e. Moves (held_in machine.old) (held_in machine.new) (HasHappened e effect.new)) }
+    ensures no_event { result ≡ NO_EVENT → event_of event.now ≡ None }
+    ensures not_loaded { result ≡ NOT_LOADED → held_in machine.old ≡ None }
+    ensures same_machine { result ≢ ACCEPTED → held_in machine.new ≡ held_in machine.old }
+    ensures same_effect { result ≢ ACCEPTED → effect.new ≡ effect.old }
+{
+    let Some(event) = event.event() else {
+        return NO_EVENT;
+    };
+    let Some(mut run) = machine.take(alloc) else {
+        return NOT_LOADED;
+    };
+    *effect = effect_of(run.advance(alloc, event));
+    machine.put(run);
+    ACCEPTED
+}
+
+/// Steps of a machine in which no process gives way, and the first that is ready is next, until one emits a message, no
+/// process is running, or `limit` bytes are executed, by a status. `ACCEPTED`: how far it went is written to
+/// `progress`.
+/// `NOT_LOADED`: no module is loaded, and nothing is written.
+#[unsafe(no_mangle)]
+pub extern "C" fn tpm_run(
+    alloc: Global,
+    machine: &mut HostMachine,
+    limit: u64,
+    progress: &mut HostProgress,
+) -> u8
+    ensures statuses { (result ≡ ACCEPTED) ⊎ (result ≡ NOT_LOADED) }
+    ensures accepted { result ≡ ACCEPTED
+        → Moves (held_in machine.old) (held_in machine.new) (HasProgressed limit progress.new) }
+    ensures not_loaded { result ≡ NOT_LOADED → held_in machine.old ≡ None }
+    ensures same_machine { result ≢ ACCEPTED → held_in machine.new ≡ held_in machine.old }
+    ensures same_progress { result ≢ ACCEPTED → progress.new ≡ progress.old }
+{
+    let Some(mut run) = machine.take(alloc) else {
+        return NOT_LOADED;
+    };
+    *progress = progress_of(run.run(alloc, limit));
+    machine.put(run);
+    ACCEPTED
+}
+
+/// What can be asked of a machine, by a status. `ACCEPTED`: it is written to `state`. `NOT_LOADED`: no module is
+/// loaded, and nothing is written. The machine is as before.
+#[unsafe(no_mangle)]
+pub extern "C" fn tpm_look(alloc: Global, machine: &mut HostMachine, state: &mut HostState) -> u8
+    ensures statuses { (result ≡ ACCEPTED) ⊎ (result ≡ NOT_LOADED) }
+    ensures accepted { result ≡ ACCEPTED → IsSomeAnd (held_in machine.old) (IsState state.new) }
+    ensures not_loaded { result ≡ NOT_LOADED → held_in machine.old ≡ None }
+    ensures same_machine { held_in machine.new ≡ held_in machine.old }
+    ensures same_state { result ≢ ACCEPTED → state.new ≡ state.old }
+{
+    let Some(run) = machine.take(alloc) else {
+        return NOT_LOADED;
+    };
+    *state = state_of(&run);
+    machine.put(run);
+    ACCEPTED
+}
+
+/// The message that the last event of a machine sent, by a status. `ACCEPTED`: it is written to the beginning of `out`,
+/// and nothing if no message was sent. `TOO_SMALL`: it is longer than `out`. `NOT_LOADED`: no module is loaded. Nothing
+/// else is written. The machine is as before.
+#[unsafe(no_mangle)]
+pub extern "C" fn tpm_message(alloc: Global, machine: &mut HostMachine, out: &mut [u8]) -> u8
+    ensures statuses { (result ≡ ACCEPTED) ⊎ ((result ≡ TOO_SMALL) ⊎ (result ≡ NOT_LOADED)) }
+    ensures accepted { result ≡ ACCEPTED
+        → IsSomeAnd (held_in machine.old) (λ run. IsHandedOver out.old out.new run.last) }
+    ensures too_small { result ≡ TOO_SMALL
+        → IsSomeAnd (held_in machine.old) (λ run. length out.old < length run.last) }
+    ensures not_loaded { result ≡ NOT_LOADED → held_in machine.old ≡ None }
+    ensures same_machine { held_in machine.new ≡ held_in machine.old }
+    ensures same_out { result ≢ ACCEPTED → out.new ≡ out.old }
+{
+    let Some(run) = machine.take(alloc) else {
+        return NOT_LOADED;
+    };
+    let status = hand_over(run.message(), out);
+    machine.put(run);
+    status
 }

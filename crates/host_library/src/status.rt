@@ -12,3 +12,5 @@ pub const OUT_OF_MEMORY: u8 = 3;
 pub const NO_EVENT: u8 = 4;
 /// What was sent is longer than the buffer.
 pub const TOO_SMALL: u8 = 5;
+/// No machine is loaded.
+pub const NOT_LOADED: u8 = 6;

@@ -3,10 +3,12 @@
 
 ghost use Rattle.std.specs.Prelude.{◌≤◌};
 
+use crate::effects::{EMITTED, HostEffect, HostProgress, HostState, IDLE, RAN};
 use crate::events::{ACKNOWLEDGE, ARRIVE, HostEvent, STEP};
 use crate::replaying::HostReport;
-use crate::status::{ACCEPTED, NO_EVENT, NO_MODULE, NOT_CERTIFIED, TOO_SMALL};
-use crate::{tpm_replay, tpm_verify};
+use crate::status::{ACCEPTED, NO_EVENT, NO_MODULE, NOT_CERTIFIED, NOT_LOADED, TOO_SMALL};
+use crate::{tpm_free, tpm_load, tpm_look, tpm_message, tpm_replay, tpm_run, tpm_step, tpm_verify};
+use kept_runs::HostMachine;
 use std::alloc::Global;
 
 /// `ldc 5`, `stl 1`, `ldl 1`, `adc 1`, `stl 1`, `stopp`, with a budget of 7.
@@ -125,4 +127,95 @@ fn each_status_is_given(rt: HostRuntime) {
             NOT_CERTIFIED
         ]
     );
+}
+
+/// The status of loading a module.
+fn loaded(alloc: Global, bytes: &[u8], machine: &mut HostMachine) -> u8 {
+    let (mut number, mut offset) = (0, 0);
+    tpm_load(alloc, bytes, machine, &mut number, &mut offset)
+}
+
+/// The status of an event.
+fn stepped(alloc: Global, machine: &mut HostMachine, event: &HostEvent) -> u8 {
+    let mut effect = HostEffect { kind: 0, link: 0 };
+    tpm_step(alloc, machine, event, &mut effect)
+}
+
+/// How far a machine goes by itself, with at most so many bytes: how many they are, and why it stops.
+fn ran(alloc: Global, machine: &mut HostMachine, limit: u64) -> (u64, u8) {
+    let mut progress = HostProgress {
+        executed: 0,
+        kind: 0,
+        link: 0,
+    };
+    tpm_run(alloc, machine, limit, &mut progress);
+    (progress.executed, progress.kind)
+}
+
+/// The status of the message that was sent last, with a buffer of so many bytes.
+fn told(alloc: Global, machine: &mut HostMachine, capacity: usize) -> u8
+    requires { capacity ≤ 1 }
+{
+    let mut out = [0];
+    tpm_message(alloc, machine, &mut out[..capacity])
+}
+
+/// The status of a question.
+fn looked(alloc: Global, machine: &mut HostMachine) -> u8 {
+    let mut state = HostState {
+        executed: 0,
+        message: 0,
+        is_running: 0,
+        is_finished: 0,
+        wants: [0; 4],
+    };
+    tpm_look(alloc, machine, &mut state)
+}
+
+#[test]
+fn each_status_of_a_machine_is_given(rt: HostRuntime) {
+    let alloc = rt.alloc();
+    let mut machine = HostMachine::empty(alloc);
+    let before = [
+        looked(alloc, &mut machine),
+        stepped(alloc, &mut machine, &STEPS),
+        told(alloc, &mut machine, 1),
+        loaded(alloc, &COPY[..90], &mut machine),
+        loaded(alloc, &UNPAID, &mut machine),
+        loaded(alloc, &COPY, &mut machine),
+        stepped(alloc, &mut machine, &NONE),
+    ];
+    let runs = [
+        ran(alloc, &mut machine, 5),
+        ran(alloc, &mut machine, 5),
+        ran(alloc, &mut machine, 5),
+    ];
+    let during = [
+        stepped(alloc, &mut machine, &COMES),
+        looked(alloc, &mut machine),
+    ];
+    let sent = ran(alloc, &mut machine, 100);
+    let after = [
+        told(alloc, &mut machine, 0),
+        told(alloc, &mut machine, 1),
+        stepped(alloc, &mut machine, &TAKEN),
+    ];
+    tpm_free(alloc, &mut machine);
+    assert_eq!(rt;
+        before,
+        [
+            NOT_LOADED,
+            NOT_LOADED,
+            NOT_LOADED,
+            NO_MODULE,
+            NOT_CERTIFIED,
+            ACCEPTED,
+            NO_EVENT
+        ]
+    );
+    assert_eq!(rt; runs, [(5, RAN), (3, IDLE), (0, IDLE)]);
+    assert_eq!(rt; during, [ACCEPTED, ACCEPTED]);
+    assert_eq!(rt; sent, (5, EMITTED));
+    assert_eq!(rt; after, [TOO_SMALL, ACCEPTED, ACCEPTED]);
+    assert_eq!(rt; looked(alloc, &mut machine), NOT_LOADED);
 }

@@ -1,0 +1,3 @@
+pub mod Loosely
+pub mod Handles
+pub mod RunningOn

@@ -1,0 +1,10 @@
+use Rattle.std.proofs.Common.{◌-◌}
+use Rattle.module_format.specs.Contents.{contents_of}
+use Rattle.kept_runs.proofs.RunningOn.{RunsStill}
+use Rattle.kept_runs.proofs.moving.run.Given as goal
+
+abbrev pub invariant-steps : goal.invariant-steps
+invariant-steps l = RunsStill (contents_of l.tables) l.initial.machine l.machine l.executed l.limit
+
+abbrev pub decreases-steps : goal.decreases-steps
+decreases-steps l = l.limit - l.executed

@@ -1,0 +1,23 @@
+//! How far a run went by itself.
+
+use machine_state::Link;
+
+/// Why a run stopped.
+#[derive(Clone, Copy)]
+pub enum RunStop {
+    /// As many bytes were executed as were asked for.
+    AtLimit,
+    /// No process is running.
+    Idle,
+    /// A message went out on this link.
+    Emitted { link: Link },
+}
+
+/// How far a run went.
+#[derive(Clone, Copy)]
+pub struct RunReport {
+    /// How many bytes were executed.
+    pub executed: u64,
+    /// Why it stopped.
+    pub stop: RunStop,
+}
