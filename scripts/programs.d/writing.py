@@ -2,6 +2,7 @@
 
 import tree
 from ranges import Entry
+from nasty import Nasty
 from networks import Networks
 from statements import Statements, plain
 
@@ -50,6 +51,19 @@ def program(dice, is_sequential, is_without_alt):
     """The items of a program."""
     writer = Statements(dice) if is_sequential else Networks(dice, not is_without_alt)
     writer.left = dice.choice([4, 7, 10, 15, 30])
+    return items_of(writer)
+
+
+def nasty(dice):
+    """The items of a nasty program."""
+    writer = Nasty(dice)
+    writer.left = dice.choice([7, 15, 30, 60])
+    return items_of(writer)
+
+
+def items_of(writer):
+    """The items that somebody writes."""
+    dice = writer.dice
     for _ in range(dice.choice([0, 1, 2, 3])):
         type_ = dice.choice(["INT", "INT", "BYTE"])
         is_constant = dice.random() < 0.5
