@@ -57,6 +57,19 @@ enum tpm_status {
     TPM_NOT_LOADED = 6
 };
 
+/* How many bytes a machine takes. */
+struct tpm_sizes {
+    /* Its memory: data, code and constants. */
+    size_t memory;
+    /* Its code, decoded. */
+    size_t decoded;
+    /* All else: the code, the constants and the tables of its module, and what it is at the moment. What the allocator
+       adds to each block is not counted. */
+    size_t record;
+    /* The most instruction bytes that any run of it executes. */
+    uint64_t budget;
+};
+
 /* What can happen to a module. */
 enum tpm_kind {
     /* One byte of the running process is executed. */
@@ -101,6 +114,15 @@ struct tpm_report {
    Nothing else is written. */
 uint8_t tpm_verify(const uint8_t *bytes, size_t length, uint64_t *budget, uint8_t *number, size_t *offset);
 
+/* Says how many bytes a machine of the module takes whose file the `length` bytes are.
+
+   TPM_ACCEPTED        they are the file of a certified module, and *sizes is what a machine of it takes
+   TPM_NO_MODULE, TPM_NOT_CERTIFIED, TPM_OUT_OF_MEMORY
+                       as of tpm_verify
+
+   Nothing else is written. */
+uint8_t tpm_measure(const uint8_t *bytes, size_t length, struct tpm_sizes *sizes, uint8_t *number, size_t *offset);
+
 /* Replays the `count` events on the module whose file the `length` bytes are, from the module that is loaded on.
 
    TPM_ACCEPTED        *report is what became of it; what was sent on link 0 is at `out`, followed by what was sent on
@@ -123,7 +145,7 @@ struct tpm_machine {
 
 /* What an event did. */
 enum tpm_done {
-    /* A byte of the running process was executed. Of tpm_run: all that were asked for. */
+    /* A byte of the running process was executed. Of tpm_run: at least as many as were asked for. */
     TPM_RAN = 0,
     /* No process is running. */
     TPM_IDLE = 1,
@@ -196,8 +218,9 @@ void tpm_free(struct tpm_machine *machine);
    If it is not accepted, the machine is as before and nothing is written. */
 uint8_t tpm_step(struct tpm_machine *machine, const struct tpm_event *event, struct tpm_effect *effect);
 
-/* Steps by themselves, with slice 0 and pick 0 each, until one sends a message, no process is running, or `limit`
-   instruction bytes are executed.
+/* Steps by themselves, with slice 0 and pick 0 each, until one sends a message, no process is running, or at least
+   `limit` instruction bytes are executed: then after the first byte that completes the end of a loop's turn, a call, or
+   an instruction that asks something of another process or of a link.
 
    TPM_ACCEPTED        *progress says how far it went, and why it stopped
    TPM_NOT_LOADED

@@ -3,3 +3,4 @@ pub mod Events
 pub mod Failures
 pub mod Replays
 pub mod Machines
+pub mod Sizes

@@ -41,7 +41,7 @@ pub struct HostEffect {
 pub struct HostProgress {
     /// How many bytes were executed.
     pub executed: u64,
-    /// `RAN` if that are all that were asked for, else `IDLE` or `EMITTED`.
+    /// `RAN` if that are at least as many as were asked for, else `IDLE` or `EMITTED`.
     pub kind: u8,
     /// Of a message: the number of the link that it went out on.
     pub link: u8,

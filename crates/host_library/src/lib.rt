@@ -6,7 +6,7 @@
 mod effects;
 mod events;
 mod failure;
-mod judging;
+mod measuring;
 mod replaying;
 mod status;
 mod stepping;
@@ -20,13 +20,14 @@ ghost use Rattle.certified_worlds.specs.Certified.{IsCertified};
 ghost use Rattle.host_library.specs.Files.{IsCertifiedFile, IsNoFile, IsRefusedFile};
 ghost use Rattle.host_library.specs.Events.{IsNoEvent, event_of};
 ghost use Rattle.host_library.specs.Replays.{HasReplayed, IsHandedOver};
+ghost use Rattle.host_library.specs.Sizes.{AreSizes};
 ghost use Rattle.host_library.specs.Machines.{IsLoaded, Moves, HasHappened, HasProgressed, IsState};
 ghost use Rattle.kept_runs.specs.Machine.{held_in};
 
 use effects::{HostEffect, HostProgress, HostState, effect_of, progress_of};
 use events::HostEvent;
-use judging::budget_of;
 use kept_runs::HostMachine;
+use measuring::{HostSizes, sizes_of};
 use replaying::{HostReport, hand_over, run_of};
 use status::{ACCEPTED, NO_EVENT, NO_MODULE, NOT_CERTIFIED, NOT_LOADED, OUT_OF_MEMORY, TOO_SMALL};
 use std::alloc::Global;
@@ -55,9 +56,40 @@ pub extern "C" fn tpm_verify(
     ensures same_number { result ≢ NO_MODULE → result ≢ NOT_CERTIFIED → number.new ≡ number.old }
     ensures same_offset { result ≢ NO_MODULE → result ≢ NOT_CERTIFIED → offset.new ≡ offset.old }
 {
-    match budget_of(alloc, bytes) {
+    match sizes_of(alloc, bytes) {
         Ok(found) => {
-            *budget = found;
+            *budget = found.budget;
+            ACCEPTED
+        }
+        Err(failure) => failure.tell(number, offset),
+    }
+}
+
+/// How many bytes a machine of the module in these bytes takes, by a status. `ACCEPTED`: the module is certified, and
+/// they are written to `sizes`. `NO_MODULE`, `NOT_CERTIFIED` and `OUT_OF_MEMORY`: as of `tpm_verify`. Nothing else is
+/// written.
+#[unsafe(no_mangle)]
+pub extern "C" fn tpm_measure(
+    alloc: Global,
+    bytes: &[u8],
+    sizes: &mut HostSizes,
+    number: &mut u8,
+    offset: &mut usize,
+) -> u8
+    ensures statuses { result ≤ OUT_OF_MEMORY }
+    ensures accepted { result ≡ ACCEPTED → IsCertifiedFile bytes.now (AreSizes sizes.new) }
+    ensures no_module { result ≡ NO_MODULE → IsNoFile bytes.now number.new offset.new }
+    ensures not_certified { result ≡ NOT_CERTIFIED → IsRefusedFile bytes.now number.new offset.new }
+    // A certified module is accepted, unless memory runs out.
+    ensures refuses_no_certified_module { (m : Contents) → Format bytes.now m → IsCertified m
+        → result ≢ ACCEPTED → result ≡ OUT_OF_MEMORY }
+    ensures same_sizes { result ≢ ACCEPTED → sizes.new ≡ sizes.old }
+    ensures same_number { result ≢ NO_MODULE → result ≢ NOT_CERTIFIED → number.new ≡ number.old }
+    ensures same_offset { result ≢ NO_MODULE → result ≢ NOT_CERTIFIED → offset.new ≡ offset.old }
+{
+    match sizes_of(alloc, bytes) {
+        Ok(found) => {
+            *sizes = found;
             ACCEPTED
         }
         Err(failure) => failure.tell(number, offset),
@@ -175,8 +207,8 @@ pub extern "C" fn tpm_step(
 }
 
 /// Steps of a machine in which no process gives way, and the first that is ready is next, until one emits a message, no
-/// process is running, or `limit` bytes are executed, by a status. `ACCEPTED`: how far it went is written to
-/// `progress`.
+/// process is running, or at least `limit` bytes are executed: then after the first that completes a loop's end, a call
+/// or what asks something of others; by a status. `ACCEPTED`: how far it went is written to `progress`.
 /// `NOT_LOADED`: no module is loaded, and nothing is written.
 #[unsafe(no_mangle)]
 pub extern "C" fn tpm_run(

@@ -213,7 +213,7 @@ fn each_status_of_a_machine_is_given(rt: HostRuntime) {
             NO_EVENT
         ]
     );
-    assert_eq!(rt; runs, [(5, RAN), (3, IDLE), (0, IDLE)]);
+    assert_eq!(rt; runs, [(8, RAN), (0, IDLE), (0, IDLE)]);
     assert_eq!(rt; during, [ACCEPTED, ACCEPTED]);
     assert_eq!(rt; sent, (5, EMITTED));
     assert_eq!(rt; after, [TOO_SMALL, ACCEPTED, ACCEPTED]);

@@ -1,3 +1,4 @@
 pub mod Loosely
 pub mod Handles
 pub mod RunningOn
+pub mod GoingOn

@@ -16,6 +16,7 @@ use crate::running_on::RunReport;
 use link_runs::Reaction;
 use machine_state::{Event, Link};
 use module_format::Tables;
+use plain_machine::{DecodedCode, DecodedInstruction};
 use std::alloc::{AllocError, Global};
 use std::marker::Model;
 use std::mem::replace;
@@ -25,6 +26,7 @@ use std::mem::replace;
 #[derive(Drop)]
 pub struct KeptRun {
     code: Vec<u8>,
+    entries: Vec<DecodedInstruction>,
     constants: Vec<u8>,
     numbers: Numbers,
     rows: Rows,
@@ -35,6 +37,7 @@ pub struct KeptRun {
 impl Model for KeptRun {
     ghost use Rattle.accepted_runs.specs.Running.{PlainExecution, Runs};
     ghost use Rattle.accepted_runs.specs.Reacting.{message_of, HasMessage};
+    ghost use Rattle.plain_machine.specs.Sequences.{AreEntries};
     ghost use Rattle.kept_runs.specs.OwnTables.{contents_in};
 
     ghost Value = { PlainExecution };
@@ -46,7 +49,7 @@ impl Model for KeptRun {
     } };
 
     ghost invariant = { λ r. Runs (contents_in r.code.items r.constants.items r.numbers r.rows) r.machine
-        × HasMessage r.has_sent r.machine };
+        × HasMessage r.has_sent r.machine × AreEntries r.code.items r.entries.items };
 }
 
 impl KeptRun {
@@ -62,11 +65,14 @@ impl KeptRun {
         ensures shows { IfOk result (λ r. Shows r (loaded (contents_of tables.entry))) }
     {
         let machine = plain_run::Machine::load(alloc, &tables)?;
+        let decoded = DecodedCode::of(alloc, tables.code)?;
+        let entries = decoded.into_entries();
         let code = Vec::from_slice(alloc, tables.code)?;
         let constants = Vec::from_slice(alloc, tables.constants)?;
         let numbers = numbers_of(&tables);
         Ok(KeptRun {
             code,
+            entries,
             constants,
             numbers,
             rows: rows_of(tables),
@@ -91,7 +97,8 @@ impl KeptRun {
     }
 
     /// Steps in which no process gives way, and the first that is ready is next, until one emits a message, no process
-    /// is running, or so many bytes are executed.
+    /// is running, or so many bytes are executed: then after the first that completes a loop's end, a call or what asks
+    /// something of others.
     pub fn run(&mut self, alloc: Global, limit: u64) -> RunReport
         ensures contents { self.new.contents ≡ self.old.contents }
         ensures reaches { (w : World) → Shows self.old w
@@ -99,7 +106,10 @@ impl KeptRun {
     {
         let rows = replace(&mut self.rows, Rows::empty(alloc));
         let tables = tables_with(&self.code, &self.constants, self.numbers, rows);
-        let report = run(&mut self.machine, &tables, limit);
+        let entries = replace(&mut self.entries, Vec::new(alloc));
+        let code = DecodedCode::with_entries(tables.code, entries);
+        let report = run(&mut self.machine, &tables, &code, limit);
+        self.entries = code.into_entries();
         self.rows = rows_of(tables);
         self.has_sent = has_emitted(report.stop);
         report

@@ -1,18 +1,20 @@
 //! What a machine does, with the tables of its module beside it.
 
-ghost use Rattle.std.specs.Prelude.{◌≡◌, ◌+◌, ◌<◌, ◌^◌};
+ghost use Rattle.std.specs.Prelude.{◌≡◌, ◌+◌, ◌-◌, ◌^◌, ◌<◌, ◌≤◌};
 ghost use Rattle.module_format.specs.Contents.{contents_of};
 ghost use Rattle.machine_state.specs.World.{World};
 ghost use Rattle.verifier.specs.Headline.{IsEvent};
 ghost use Rattle.link_runs.specs.Driving.{HasReacted};
 ghost use Rattle.accepted_runs.specs.Reacting.{is_sent, message_of, HasMessage};
 ghost use Rattle.accepted_runs.specs.Running.{AgreesOn, Runs};
-ghost use Rattle.kept_runs.specs.RunningOn.{HasRunOn, report_by, has_emitted};
+ghost use Rattle.kept_runs.specs.RunningOn.{HasRunOn, stop_by, has_emitted};
+ghost use Rattle.kept_runs.specs.GoingOn.{GoesBy};
 
 use crate::running_on::{RunReport, RunStop};
 use link_runs::Reaction;
 use machine_state::Event;
 use module_format::Tables;
+use plain_machine::DecodedCode;
 use plain_run::Machine;
 
 /// The Step after which no process gives way, and the first that is ready is next.
@@ -40,21 +42,14 @@ pub fn has_emitted(stop: RunStop) -> bool
     matches!(stop, RunStop::Emitted { .. })
 }
 
-/// What is reported of a run after so many Steps and one more that did this, or nothing if the next one follows.
-fn report_of(executed: u64, reaction: Reaction) -> Option<RunReport>
-    requires { executed + 1 < 2 ^ 64 }
-    ensures { result ≡ report_by executed reaction }
+/// Why a run stopped after a Step that did this, or nothing if the next one follows.
+fn stop_of(reaction: Reaction) -> Option<RunStop>
+    ensures { result ≡ stop_by reaction }
 {
     match reaction {
         Reaction::Ran => None,
-        Reaction::Emitted { link } => Some(RunReport {
-            executed: executed + 1,
-            stop: RunStop::Emitted { link },
-        }),
-        _ => Some(RunReport {
-            executed,
-            stop: RunStop::Idle,
-        }),
+        Reaction::Emitted { link } => Some(RunStop::Emitted { link }),
+        _ => Some(RunStop::Idle),
     }
 }
 
@@ -71,25 +66,65 @@ pub fn advance(machine: &mut Machine, tables: &Tables<'_>, event: Event) -> Reac
     machine.apply(tables, event)
 }
 
+/// What is reported of a run that began after so many bytes.
+fn report_of(machine: &Machine, start: u64, stop: RunStop) -> RunReport
+    requires { start ≤ machine.now.counters.executed }
+    ensures { result ≡ record { executed = machine.now.counters.executed - start; stop = stop } }
+{
+    let executed = machine.executed() - start;
+    RunReport { executed, stop }
+}
+
+/// How many bytes are executed after so many more, or the greatest number.
+fn end_after(executed: u64, more: u64) -> u64
+    ensures low { result ≤ executed + more }
+    ensures high { result < 2 ^ 64 - 1 → result ≡ executed + more }
+{
+    executed.saturating_add(more)
+}
+
+/// Steps in which no process gives way, and the first that is ready is next: of all but the last one the process that runs
+/// asks nothing of others. They end after the first loop's end or call with which `limit` bytes or more are executed since
+/// the module was loaded, and then nothing is reported.
+#[inline(always)]
+fn go_on(
+    machine: &mut Machine,
+    tables: &Tables<'_>,
+    code: &DecodedCode<'_>,
+    limit: u64,
+) -> Option<Reaction>
+    requires runs { Runs (contents_of tables.now) machine.old }
+    requires code { code.now ≡ (contents_of tables.now).code }
+    ensures { GoesBy (contents_of tables.now) machine.old limit result machine.new }
+{
+    machine.go_on_until(tables, code, limit)
+}
+
 /// Steps in which no process gives way, and the first that is ready is next, until one emits a message, no process is
-/// running, or so many bytes are executed.
-pub fn run(machine: &mut Machine, tables: &Tables<'_>, limit: u64) -> RunReport
-    requires { Runs (contents_of tables.now) machine.old }
+/// running, or so many bytes are executed: then after the first that completes a loop's end, a call or what asks
+/// something of others. They are those of the code, decoded.
+pub fn run(
+    machine: &mut Machine,
+    tables: &Tables<'_>,
+    code: &DecodedCode<'_>,
+    limit: u64,
+) -> RunReport
+    requires runs { Runs (contents_of tables.now) machine.old }
+    requires code { code.now ≡ (contents_of tables.now).code }
     ensures runs { Runs (contents_of tables.now) machine.new }
     ensures message { HasMessage (has_emitted result.stop) machine.new }
     ensures reaches { let m = contents_of tables.now in (w : World) → AgreesOn m machine.old w
         → HasRunOn m w limit result (message_of (has_emitted result.stop) machine.new) (AgreesOn m machine.new) }
 {
-    let mut executed = 0;
-    'steps: while executed < limit {
-        let reaction = advance(machine, tables, PLAIN_STEP);
-        if let Some(report) = report_of(executed, reaction) {
-            return report;
+    let start = machine.executed();
+    let end = end_after(start, limit);
+    'steps: while machine.executed() < end {
+        let Some(reaction) = go_on(machine, tables, code, end) else {
+            return report_of(machine, start, RunStop::AtLimit);
+        };
+        if let Some(stop) = stop_of(reaction) {
+            return report_of(machine, start, stop);
         }
-        executed += 1;
     }
-    RunReport {
-        executed,
-        stop: RunStop::AtLimit,
-    }
+    report_of(machine, start, RunStop::AtLimit)
 }

@@ -5,7 +5,8 @@ use machine_state::Link;
 /// Why a run stopped.
 #[derive(Clone, Copy)]
 pub enum RunStop {
-    /// As many bytes were executed as were asked for.
+    /// At least as many bytes were executed as were asked for, the last of which completes a loop's end, a call or what
+    /// asks something of others, if they are more.
     AtLimit,
     /// No process is running.
     Idle,

@@ -25,6 +25,7 @@ mod workspace_queue;
 mod workspaces;
 
 pub use bytewise::execute_byte;
+pub use decoded::DecodedInstruction;
 pub use decoding::DecodedCode;
 pub use flow::PlainFlow;
 pub use input::{PlainArrival, PlainInput};

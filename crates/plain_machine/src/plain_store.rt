@@ -7,7 +7,7 @@ ghost use Rattle.machine_state.specs.LocalStep.{address, copied};
 ghost use Rattle.machine_state.specs.Memory.{place_of, scheduling_word, with_byte};
 ghost use Rattle.plain_machine.specs.Plain.{defined};
 ghost use Rattle.plain_machine.specs.PlainByte.{byte_step, operand_after, IsByteSafe};
-ghost use Rattle.plain_machine.specs.PlainRun.{CanRun, HasRun, point_of};
+ghost use Rattle.plain_machine.specs.PlainRun.{CanRun, HasRun, TurnsWithin, executed_with, point_of};
 ghost use Rattle.plain_machine.specs.PlainStep.{state_of, plain_word, plain_code_offset, with_plain_word, Does};
 ghost use Rattle.plain_machine.specs.PlainStep.{HasWord, HasBytes};
 ghost use Rattle.plain_machine.specs.Waiting.{parked};
@@ -82,7 +82,8 @@ impl PlainStore {
 
     /// Executes instructions of the process that runs, one after the other, until one asks something of others, of code
     /// that begins at this address. `executed` counts their bytes, but not the last one of what asks something. Returns
-    /// what that leaves to be done, and nothing if no instruction is to be read. Nothing is tested.
+    /// what that leaves to be done; and nothing after a loop's end or a call with which `limit` bytes or more are
+    /// counted, or if no instruction is to be read. Nothing is tested.
     #[inline(always)]
     pub(crate) fn run(
         &mut self,
@@ -90,13 +91,23 @@ impl PlainStore {
         executed: &mut u64,
         code: &DecodedCode,
         code_start: u32,
+        limit: u64,
     ) -> Option<PlainFlow>
         requires code { length code.now < 2 ^ 32 }
         requires can { CanRun code_start code.now executed.old (point_of registers.old self.old) }
-        ensures { let from = point_of registers.old self.old in
+        ensures run { let from = point_of registers.old self.old in
             HasRun code_start code.now from executed.old result (state_of registers.new self.new) executed.new }
+        ensures turns { let from = point_of registers.old self.old in
+            TurnsWithin code_start code.now from executed.old limit (executed_with result executed.new) }
     {
-        running::execute_instructions(&mut self.bytes, registers, executed, code, code_start)
+        running::execute_instructions(
+            &mut self.bytes,
+            registers,
+            executed,
+            code,
+            code_start,
+            limit,
+        )
     }
 
     /// The process that runs leaves: its word W-1 takes the address where it goes on, of code that begins at this

@@ -12,6 +12,7 @@ ghost use Rattle.plain_machine.specs.Linked.{keeps_link};
 ghost use Rattle.plain_machine.specs.Plain.{defined};
 ghost use Rattle.plain_machine.specs.PlainByte.{byte_step, operand_after, IsByteSafe};
 ghost use Rattle.plain_machine.specs.PlainRun.{PlainPoint, CanRun, HasRun, LinksStay, RunsTo, point_in};
+ghost use Rattle.plain_machine.specs.PlainRun.{TurnsWithin, executed_with};
 ghost use Rattle.plain_machine.specs.PlainStep.{PlainState, leaves, HasWord, HasBytes, plain_word, with_plain_word};
 ghost use Rattle.plain_machine.specs.Waiting.{ReadyMemory, parked, picked, resumed_at};
 ghost use Rattle.plain_machine.specs.Waiting.{CanPushBehind, AllCanResume};
@@ -95,8 +96,9 @@ impl Workspaces {
 
     /// Executes instructions of the process that runs, one after the other, until one asks something of others, of code
     /// that begins at this address. `executed` counts their bytes, but not the last one of what asks something. Returns
-    /// what that leaves to be done, and nothing if no instruction is to be read. Nothing is tested: however far that
-    /// goes, the next byte is safe, and no link of a ready process has changed.
+    /// what that leaves to be done; and nothing after a loop's end or a call with which `limit` bytes or more are
+    /// counted, or if no instruction is to be read. Nothing is tested: however far that goes, the next byte is safe, and
+    /// no link of a ready process has changed.
     #[inline(always)]
     pub fn run(
         &mut self,
@@ -104,6 +106,7 @@ impl Workspaces {
         executed: &mut u64,
         code: &DecodedCode,
         code_start: u32,
+        limit: u64,
     ) -> Option<PlainFlow>
         requires code { length code.now < 2 ^ 32 }
         requires can { CanRun code_start code.now executed.old (point_in registers.old self.old.memory) }
@@ -113,9 +116,11 @@ impl Workspaces {
         ensures run { let from = point_in registers.old self.old.memory in
             let to : PlainState = record { registers = registers.new; memory = self.new.memory } in
             HasRun code_start code.now from executed.old result to executed.new }
+        ensures turns { let from = point_in registers.old self.old.memory in
+            TurnsWithin code_start code.now from executed.old limit (executed_with result executed.new) }
         ensures ready { self.new.ready ≡ self.old.ready }
     {
-        self.store.run(registers, executed, code, code_start)
+        self.store.run(registers, executed, code, code_start, limit)
     }
 
     /// The process with these registers leaves: its word W-1 takes the address where it goes on, of code that begins at

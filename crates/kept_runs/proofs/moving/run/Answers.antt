@@ -1,36 +1,135 @@
-use Rattle.std.proofs.Common.{◌≡◌, None, Some, arith, rules}
+use Rattle.std.proofs.Common.{◌≡◌, ◌<◌, ◌∙◌, ℕ, Option, None, Some, arith, rules, sym, subst}
 use Rattle.module_format.specs.Contents.{contents_of}
-use Rattle.kept_runs.specs.RunningOn.{report_by}
-use Rattle.kept_runs.proofs.RunningOn.{has_not_stepped, stepped_further, stops_as, has_message}
+use Rattle.link_runs.specs.declared.driving.Reaction.{Reaction}
+use Rattle.accepted_runs.specs.Reacting.{HasMessage}
+use Rattle.kept_runs.specs.declared.running_on.RunReport.{RunReport}
+use Rattle.kept_runs.specs.declared.running_on.RunStop.TheVariants.{AtLimit}
+use Rattle.kept_runs.specs.GoingOn.{GoesBy}
+use Rattle.kept_runs.specs.RunningOn.{has_emitted, stop_by}
+use Rattle.kept_runs.proofs.RunningOn.{all_done, comes_nearer, has_message, has_not_stepped, no_less, reached_there}
+use Rattle.kept_runs.proofs.RunningOn.{runs_after, stepped_further, stepped_there, stops_as, told_as}
 use Rattle.kept_runs.proofs.moving.run.Goals as goal
 
 pub steps-init : goal.steps-init
-steps-init c = record {
-  on = has_not_stepped (contents_of c.args.tables.now) c.args.machine.now;
-  runs = c.requires;
-  few = omega arith;
-}
+steps-init c = has_not_stepped (contents_of c.args.tables.now) c.args.machine.now c.end_after-end.result c.requires.runs
 
-pub returns-in-Some-clause-message : goal.returns-in-Some-clause-message
-returns-in-Some-clause-message c =
-    let some : report_by c.steps.executed c.advance-reaction.result ≡ Some c.in-Some.report = search rules in
-    has_message c.steps.executed c.advance-reaction.result c.in-Some.report c.advance-reaction.new.machine some
-    c.advance-reaction.ensures.message
+pub report_of-requires : goal.report_of-requires
+report_of-requires c =
+    let m = contents_of c.args.tables.now in
+    let start = c.args.machine.now in
+    let end = c.end_after-end.result in
+    let less : c.steps.machine.counters.executed < end = search rules in
+    let goes = subst (λ (o : Option Reaction). GoesBy m c.steps.machine end o c.go_on.new.machine) c.in_default.is
+    c.go_on.ensures in
+    let still = stepped_there m start c.steps.machine end c.steps.invariant less c.go_on.new.machine goes in
+    let more = still.more in
+    omega (arith, more, c.executed-start.ensures.value)
 
-pub returns-in-Some-clause-reaches : goal.returns-in-Some-clause-reaches
-returns-in-Some-clause-reaches c w agrees =
-    let some : report_by c.steps.executed c.advance-reaction.result ≡ Some c.in-Some.report = search rules in
-    stops_as (contents_of c.args.tables.now) c.args.machine.now c.steps.machine c.advance-reaction.new.machine
-    c.advance-reaction.result c.steps.executed c.steps.invariant.on c.advance-reaction.ensures.reacts c.args.limit
-    (search rules) w agrees c.in-Some.report some
+pub returns-in_default-clause-runs : goal.returns-in_default-clause-runs
+returns-in_default-clause-runs c =
+    let m = contents_of c.args.tables.now in
+    let start = c.args.machine.now in
+    let end = c.end_after-end.result in
+    let less : c.steps.machine.counters.executed < end = search rules in
+    let goes = subst (λ (o : Option Reaction). GoesBy m c.steps.machine end o c.go_on.new.machine) c.in_default.is
+    c.go_on.ensures in
+    let still = stepped_there m start c.steps.machine end c.steps.invariant less c.go_on.new.machine goes in
+    still.runs
+
+pub returns-in_default-clause-reaches : goal.returns-in_default-clause-reaches
+returns-in_default-clause-reaches c w on =
+    let m = contents_of c.args.tables.now in
+    let start = c.args.machine.now in
+    let end = c.end_after-end.result in
+    let less : c.steps.machine.counters.executed < end = search rules in
+    let goes = subst (λ (o : Option Reaction). GoesBy m c.steps.machine end o c.go_on.new.machine) c.in_default.is
+    c.go_on.ensures in
+    let still = stepped_there m start c.steps.machine end c.steps.invariant less c.go_on.new.machine goes in
+    let reached = reached_there m start c.steps.machine end c.steps.invariant less c.go_on.new.machine goes in
+    told_as m start c.go_on.new.machine c.args.limit w c.report_of.result AtLimit c.executed-start.result
+    c.report_of.ensures c.executed-start.ensures.value
+    (all_done m start c.go_on.new.machine end c.args.limit still reached
+    (omega (arith, c.end_after-end.ensures.low, c.executed-start.ensures.value))
+    (λ small. let is = c.end_after-end.ensures.high small in omega (arith, is, c.executed-start.ensures.value)) w on)
+
+pub report_of-requires-in-Some-stop_of : goal.report_of-requires-in-Some-stop_of
+report_of-requires-in-Some-stop_of c =
+    let m = contents_of c.args.tables.now in
+    let start = c.args.machine.now in
+    let end = c.end_after-end.result in
+    let less : c.steps.machine.counters.executed < end = search rules in
+    let goes = subst (λ (o : Option Reaction). GoesBy m c.steps.machine end o c.go_on.new.machine) c.in-Some.is
+    c.go_on.ensures in
+    let more = no_less m start c.steps.machine end c.steps.invariant less c.go_on.new.machine c.in-Some.reaction goes in
+    omega (arith, more, c.executed-start.ensures.value)
+
+pub returns-in-Some-stop_of-clause-runs : goal.returns-in-Some-stop_of-clause-runs
+returns-in-Some-stop_of-clause-runs c =
+    let m = contents_of c.args.tables.now in
+    let start = c.args.machine.now in
+    let end = c.end_after-end.result in
+    let less : c.steps.machine.counters.executed < end = search rules in
+    let goes = subst (λ (o : Option Reaction). GoesBy m c.steps.machine end o c.go_on.new.machine) c.in-Some.is
+    c.go_on.ensures in
+    runs_after m start c.steps.machine end c.steps.invariant less c.go_on.new.machine c.in-Some.reaction goes
+
+pub returns-in-Some-stop_of-clause-message : goal.returns-in-Some-stop_of-clause-message
+returns-in-Some-stop_of-clause-message c =
+    let m = contents_of c.args.tables.now in
+    let start = c.args.machine.now in
+    let end = c.end_after-end.result in
+    let less : c.steps.machine.counters.executed < end = search rules in
+    let goes = subst (λ (o : Option Reaction). GoesBy m c.steps.machine end o c.go_on.new.machine) c.in-Some.is
+    c.go_on.ensures in
+    subst (λ (q : RunReport). HasMessage (has_emitted q.stop) c.go_on.new.machine)
+    (sym c.report_of-in-Some-stop_of.ensures)
+    (has_message m start c.steps.machine end c.steps.invariant less c.go_on.new.machine c.in-Some.reaction goes
+    c.in-Some-stop_of.stop (sym c.stop_of.ensures ∙ c.in-Some-stop_of.is))
+
+pub returns-in-Some-stop_of-clause-reaches : goal.returns-in-Some-stop_of-clause-reaches
+returns-in-Some-stop_of-clause-reaches c w on =
+    let m = contents_of c.args.tables.now in
+    let start = c.args.machine.now in
+    let end = c.end_after-end.result in
+    let less : c.steps.machine.counters.executed < end = search rules in
+    let goes = subst (λ (o : Option Reaction). GoesBy m c.steps.machine end o c.go_on.new.machine) c.in-Some.is
+    c.go_on.ensures in
+    told_as m start c.go_on.new.machine c.args.limit w c.report_of-in-Some-stop_of.result c.in-Some-stop_of.stop
+    c.executed-start.result c.report_of-in-Some-stop_of.ensures c.executed-start.ensures.value
+    (stops_as m start c.steps.machine end c.steps.invariant less c.go_on.new.machine c.in-Some.reaction goes
+    c.args.limit (omega (arith, c.end_after-end.ensures.low, c.executed-start.ensures.value)) w on
+    c.in-Some-stop_of.stop (sym c.stop_of.ensures ∙ c.in-Some-stop_of.is))
+
+pub returns-clause-reaches : goal.returns-clause-reaches
+returns-clause-reaches c w on =
+    let m = contents_of c.args.tables.now in
+    let start = c.args.machine.now in
+    let end = c.end_after-end.result in
+    told_as m start c.steps.machine c.args.limit w c.report_of-2.result AtLimit c.executed-start.result
+    c.report_of-2.ensures c.executed-start.ensures.value
+    (all_done m start c.steps.machine end c.args.limit c.steps.invariant
+    (omega (arith, c.steps-test.false, c.executed.ensures.value))
+    (omega (arith, c.end_after-end.ensures.low, c.executed-start.ensures.value))
+    (λ small. let is = c.end_after-end.ensures.high small in omega (arith, is, c.executed-start.ensures.value)) w on)
+
+pub steps-smaller : goal.steps-smaller
+steps-smaller c =
+    let m = contents_of c.args.tables.now in
+    let start = c.args.machine.now in
+    let end = c.end_after-end.result in
+    let less : c.steps.machine.counters.executed < end = search rules in
+    let goes = subst (λ (o : Option Reaction). GoesBy m c.steps.machine end o c.go_on.new.machine) c.in-Some.is
+    c.go_on.ensures in
+    let none : stop_by c.in-Some.reaction ≡ None = search rules in
+    comes_nearer m start c.steps.machine end c.steps.invariant less c.go_on.new.machine c.in-Some.reaction goes none
 
 pub steps-preserved : goal.steps-preserved
 steps-preserved c =
-    let none : report_by c.steps.executed c.advance-reaction.result ≡ None = search rules in
-    record {
-      on = stepped_further (contents_of c.args.tables.now) c.args.machine.now c.steps.machine
-          c.advance-reaction.new.machine c.advance-reaction.result c.steps.executed c.steps.invariant.on
-          c.advance-reaction.ensures.reacts none;
-      runs = c.advance-reaction.ensures.runs;
-      few = omega arith;
-    }
+    let m = contents_of c.args.tables.now in
+    let start = c.args.machine.now in
+    let end = c.end_after-end.result in
+    let less : c.steps.machine.counters.executed < end = search rules in
+    let goes = subst (λ (o : Option Reaction). GoesBy m c.steps.machine end o c.go_on.new.machine) c.in-Some.is
+    c.go_on.ensures in
+    let none : stop_by c.in-Some.reaction ≡ None = search rules in
+    stepped_further m start c.steps.machine end c.steps.invariant less c.go_on.new.machine c.in-Some.reaction goes none

@@ -1,6 +1,7 @@
-use Rattle.std.proofs.Common.{◌≡◌, subst, sym}
+use Rattle.std.proofs.Common.{◌≡◌, ◌∙◌, ℕ, List, subst, sym}
 use Rattle.module_format.specs.Contents.{Contents, contents_of}
 use Rattle.machine_state.specs.World.{loaded}
+use Rattle.plain_machine.specs.Sequences.{AreEntries}
 use Rattle.agreement.specs.Agrees.{PlainMachine}
 use Rattle.accepted_runs.specs.Running.{AgreesOn}
 use Rattle.accepted_runs.proofs.Happening.{at_first}
@@ -27,4 +28,6 @@ invariant_of-result c =
     (at_first m c.requires.keeps ∣ c.requires.well ∣₁) in (
       (loaded m, subst (λ (n : Contents). AgreesOn n c.in_ok-machine.machine (loaded m)) (sym same) on),
       tt,
+      subst (λ (code : List ℕ). AreEntries code c.into_entries-entries.result.items)
+          (c.in_ok-decoded.ensures ∙ sym c.in_ok-code.ensures.items) c.into_entries-entries.ensures,
     )

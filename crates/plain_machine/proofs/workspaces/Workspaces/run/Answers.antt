@@ -8,7 +8,7 @@ use Rattle.plain_machine.proofs.workspaces.Workspaces.run.Goals as goal
 
 pub invariant_of-self : goal.invariant_of-self
 invariant_of-self c =
-    let x = c.run.ensures in
+    let x = c.run.ensures.run in
     let after : PlainState = record { registers = c.run.new.registers; memory = defined c.run.new.self } in
     let runs = subst (λ (r : ReadyMemory). RunsTo c.args.code_start c.args.code.now
     (point_in c.args.registers.now r.memory) x.run.bytes x.point) c.self.view_is x.run.runs in
@@ -20,7 +20,7 @@ invariant_of-self c =
 
 pub returns-clause-ready : goal.returns-clause-ready
 returns-clause-ready c =
-    let x = c.run.ensures in
+    let x = c.run.ensures.run in
     let after : PlainState = record { registers = c.run.new.registers; memory = defined c.run.new.self } in
     let runs = subst (λ (r : ReadyMemory). RunsTo c.args.code_start c.args.code.now
     (point_in c.args.registers.now r.memory) x.run.bytes x.point) c.self.view_is x.run.runs in

@@ -2,9 +2,10 @@ use Rattle.std.proofs.Common.{◌≡◌, refl, subst, sym, ap}
 use Rattle.module_format.specs.Contents.{Contents}
 use Rattle.certified_worlds.specs.Certified.{IsCertified}
 use Rattle.host_library.specs.declared.failure.HostFailure.TheVariants.{Memory}
+use Rattle.host_library.specs.Sizes.{AreSizes}
 use Rattle.host_library.proofs.Refused.{refused, only_memory}
 use Rattle.host_library.proofs.Unread.{unread, unread_for_memory}
-use Rattle.host_library.proofs.judging.budget_of.Goals as goal
+use Rattle.host_library.proofs.measuring.sizes_of.Goals as goal
 
 pub returns-in_err-verify-clause-answer : goal.returns-in_err-verify-clause-answer
 returns-in_err-verify-clause-answer c =
@@ -33,5 +34,5 @@ returns-clause-answer c = record {
   format = c.in_ok-module.ensures.found;
   certified = c.in_ok-verify.ensures.accepts.1;
   runs_well = c.in_ok-verify.ensures.headline;
-  holds = ap (λ (m : Contents). m.budget) c.tables.ensures.contents;
+  holds = subst (AreSizes c.sizes_in.result) c.tables.ensures.contents c.sizes_in.ensures;
 }

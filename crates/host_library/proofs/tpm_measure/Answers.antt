@@ -1,0 +1,7 @@
+use Rattle.std.proofs.Common.{◌∙◌, ap}
+use Rattle.host_library.specs.Failures.{status_of}
+use Rattle.host_library.proofs.tpm_measure.Goals as goal
+
+pub returns-in-Err-clause-refuses_no_certified_module : goal.returns-in-Err-clause-refuses_no_certified_module
+returns-in-Err-clause-refuses_no_certified_module c m format certified other =
+    c.tell.ensures.status ∙ ap status_of (c.in-Err.ensures.certified m format certified)
