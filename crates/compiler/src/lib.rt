@@ -7,6 +7,6 @@ mod links;
 mod source;
 
 pub use generating::generate;
-pub use lining::code_lines;
+pub use lining::{code_lines, ends_in};
 pub use links::link_lengths;
 pub use source::{CompileFault, compile};

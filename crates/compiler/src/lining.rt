@@ -20,7 +20,7 @@ use std::alloc::{AllocError, Global};
 use usage_checks::check;
 
 /// How many ends of lines there are.
-fn ends_in(source: &[u8]) -> usize
+pub fn ends_in(source: &[u8]) -> usize
     ensures { result ≡ ends_in source.now }
 {
     source.iter().filter(|byte| **byte == b'\n').count()
