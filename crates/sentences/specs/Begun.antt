@@ -1,7 +1,5 @@
 -- What begins where an instruction leads.
-use Rattle.std.specs.Prelude.{ℕ, if◌then◌else◌, ℤ, [], ◌++◌, codes, Option, Some, None}
-use Rattle.module_format.specs.Rows.{Fact}
-use Rattle.module_format.specs.declared.fact.Fact.TheVariants.{Number}
+use Rattle.std.specs.Prelude.{ℕ, ℤ, [], ◌++◌, codes, Option, Some, None}
 use Rattle.module_format.specs.declared.stack.Stack.{Stack}
 use Rattle.module_format.specs.Contents.{Contents}
 use Rattle.certificate.specs.Starts.{Entered}
@@ -12,8 +10,9 @@ use Rattle.machine_state.specs.declared.instruction.Instruction.{Instruction}
 use Rattle.machine_state.specs.declared.instruction.Instruction.TheVariants.{Call, Operate}
 use Rattle.machine_state.specs.LocalStep.{target}
 use Rattle.states.specs.declared.known.Known.{Known}
-use Rattle.fact_texts.specs.Texts.{Text, is_one}
+use Rattle.fact_texts.specs.Texts.{Text}
 use Rattle.fact_texts.specs.RowTexts.{context_text}
+use Rattle.found_parts.specs.Messages.{constant_of}
 
 unfoldable pub begun_text : Contents → ℕ → Text
 begun_text m n = codes "; " ++ (context_text m n ++ codes " begins there")
@@ -27,11 +26,6 @@ procedure_begun m (Some e) = begun_text m e.context
 abbrev pub branch_begun : Contents → Option Forked → Text
 branch_begun m None = codes "; none begins there"
 branch_begun m (Some f) = begun_text m f.context
-
--- the one number that a fact says
-abbrev pub constant_of : Fact → Option ℤ
-constant_of (Number lo hi) = if is_one lo hi then Some lo else None
-constant_of fact = None
 
 unfoldable pub branch_by : Op → Stack Known → Option ℤ
 branch_by StartProcess stack = constant_of stack.b.fact

@@ -25,6 +25,7 @@ use Rattle.fact_texts.specs.RowTexts.{is_unknown, context_text}
 use Rattle.fact_texts.specs.declared.facts.RangeText.{RangeText}
 use Rattle.state_texts.specs.StateTexts.{mode_text}
 use Rattle.state_texts.specs.FrameTexts.{word_text}
+use Rattle.found_parts.specs.Messages.{unknown_word}
 use Rattle.sentences.specs.declared.uses.Uses.{Uses}
 use Rattle.sentences.specs.declared.uses.Uses.TheVariants.{Nothing, A, AAndB, All}
 use Rattle.sentences.specs.declared.found.Spot.{Spot}
@@ -33,8 +34,10 @@ use Rattle.sentences.specs.Begun.{procedure_begun, branch_part, branch_target}
 use Rattle.sentences.specs.Leads.{lead_of, lead_lack}
 use Rattle.sentences.specs.Moves.{brings_mixed, mixed_words}
 use Rattle.sentences.specs.Parameters.{asks_parameters, arguments_found}
+use Rattle.sentences.specs.Parts.{word_part, guard_part}
 use Rattle.sentences.specs.Payments.{asked_text}
-use Rattle.sentences.specs.Uses.{used_by, used, used_for_guards, used_for_pars}
+use Rattle.sentences.specs.Started.{fault_part, shared_part}
+use Rattle.sentences.specs.Uses.{used_by, used, used_for_pars}
 
 -- ---- registers
 
@@ -48,13 +51,20 @@ registers_found All stack =
     codes "A is " ++ (fact_text stack.a.fact ++ (codes ", B is " ++ (fact_text stack.b.fact ++ (codes " and C is "
     ++ fact_text stack.c.fact))))
 
+unfoldable pub bytes_words : Text
+bytes_words = codes "a byte of the message may be part of no number"
+
+-- which word is no number, of those that are sent
+unfoldable pub bytes_found : State → Text
+bytes_found s = bytes_words ++ word_part (unknown_word s)
+
 -- the first register of which nothing is known; if there is none, it is a byte of a message
-unfoldable pub unknown_found : Stack Known → Text
-unknown_found stack =
-    if is_unknown stack.a.fact then codes "nothing is known of A"
-    else if is_unknown stack.b.fact then codes "nothing is known of B"
-    else if is_unknown stack.c.fact then codes "nothing is known of C"
-    else codes "a byte of the message may be part of no number"
+unfoldable pub unknown_found : State → Text
+unknown_found s =
+    if is_unknown s.stack.a.fact then codes "nothing is known of A"
+    else if is_unknown s.stack.b.fact then codes "nothing is known of B"
+    else if is_unknown s.stack.c.fact then codes "nothing is known of C"
+    else bytes_found s
 
 -- the range of a result that does not fit, or else what is known of the registers that are used
 unfoldable pub number_found : Uses → Stack Known → Option RangeText → Text
@@ -130,14 +140,26 @@ more_registers Nothing stack = []
 more_registers uses stack = after_mode uses stack
 
 unfoldable pub order_found : Instruction → State → Text
-order_found i s = guards_found s ++ more_registers (used_for_guards i) s.stack
+order_found i s = guards_found s ++ guard_part i s
 
 unfoldable pub par_found : Instruction → State → Text
 par_found i s = mode_found s.mode ++ more_registers (used_for_pars i) s.stack
 
+-- which branch begins where one is started, and what its start wants that is not so
+unfoldable pub started_part : Contents → Spot → State → Text
+started_part m spot s =
+    branch_part m spot.next (branch_target spot.instruction s.stack)
+    ++ fault_part m spot.next s (branch_target spot.instruction s.stack)
+
 -- the same, and which branch begins where one is started
-unfoldable pub start_found : Contents → Instruction → ℕ → State → Text
-start_found m i next s = par_found i s ++ branch_part m next (branch_target i s.stack)
+unfoldable pub start_found : Contents → Spot → State → Text
+start_found m spot s = par_found spot.instruction s ++ started_part m spot s
+
+-- what is known of the registers, and what a branch has in common with one that is started
+unfoldable pub regions_found : Contents → Spot → State → Text
+regions_found m spot s =
+    registers_found (used spot.instruction) s.stack
+    ++ shared_part m spot.next s (branch_target spot.instruction s.stack)
 
 -- ---- ways
 
@@ -254,8 +276,8 @@ unfoldable pub payment_found : ℕ → ℕ → Text
 payment_found len number = codes "its bytes are " ++ (decimal len ++ (codes " and the number is " ++ decimal number))
 
 -- the same, and what is asked where it leads
-unfoldable pub budget_found : Contents → Instruction → ℕ → ℕ → ℤ → State → Text
-budget_found m i len next e s = payment_found len s.number ++ asked_text m i next e s
+unfoldable pub budget_found : Contents → Spot → State → Text
+budget_found m spot s = payment_found spot.instr.len s.number ++ asked_text m spot s
 
 -- ---- by the rule
 
@@ -263,19 +285,18 @@ unfoldable pub found_by : Contents → Rule → Spot → State → Option RangeT
 found_by m rules.Spelling spot s sum = codes "this one has none"
 found_by m rules.InstructionStart spot s sum = codes "one starts there"
 found_by m rules.Flow spot s sum = codes "nothing leads here"
-found_by m rules.UnknownRegister spot s sum = unknown_found s.stack
+found_by m rules.UnknownRegister spot s sum = unknown_found s
 found_by m rules.Number spot s sum = number_found (used spot.instruction) s.stack sum
 found_by m rules.Pointer spot s sum = pointer_found spot.instruction spot.instr.operand s
-found_by m rules.RegionsMeet spot s sum = registers_found (used spot.instruction) s.stack
+found_by m rules.RegionsMeet spot s sum = regions_found m spot s
 found_by m rules.Channel spot s sum = end_found spot.instruction s.stack
 found_by m rules.MessageLength spot s sum = message_found m spot.instruction s
 found_by m rules.Alternation spot s sum = order_found spot.instruction s
 found_by m rules.Forward spot s sum = way_found spot.instruction spot.next spot.instr.operand s
-found_by m rules.Par spot s sum = start_found m spot.instruction spot.next s
+found_by m rules.Par spot s sum = start_found m spot s
 found_by m rules.Call spot s sum = call_found m spot.instruction spot.next spot.instr.operand s
 found_by m rules.OwnWord spot s sum = own_word_found m spot.instruction spot.next spot.instr.operand s
-found_by m rules.Budget spot s sum =
-    budget_found m spot.instruction spot.instr.len spot.next spot.instr.operand s
+found_by m rules.Budget spot s sum = budget_found m spot s
 found_by m rules.Label spot s sum = label_found m spot.instruction spot.next spot.instr.operand s
 
 -- the same, or of a call what it passes, where the rule speaks of that

@@ -9,7 +9,9 @@ pub mod Channels
 pub mod Begun
 pub mod Moves
 pub mod Parameters
+pub mod Parts
 pub mod Payments
+pub mod Started
 pub mod Found
 pub mod Sentences
 pub mod Rows

@@ -11,7 +11,7 @@ use Rattle.rulings.specs.declared.pointers.Pointed.{Pointed}
 use Rattle.rulings.specs.Pointers.{are_near}
 use Rattle.rulings.specs.Filling.{are_numbers}
 use Rattle.fact_texts.specs.Texts.{Text, is_one}
-use Rattle.sentences.specs.Begun.{constant_of}
+use Rattle.found_parts.specs.Messages.{constant_of}
 
 -- where an exact pointer leads that is near
 abbrev pub place_of : Fact → Option Pointed

@@ -50,19 +50,6 @@ used Call = All
 used (Operate op) = used_by op
 used i = Nothing
 
--- what an operation uses for a guard
-unfoldable pub used_by_guard : Op → Uses
-used_by_guard EnableSkip = A
-used_by_guard EnableChannel = AAndB
-used_by_guard DisableSkip = AAndB
-used_by_guard DisableChannel = All
-used_by_guard op = Nothing
-
--- the same of an instruction
-unfoldable pub used_for_guards : Instruction → Uses
-used_for_guards (Operate op) = used_by_guard op
-used_for_guards i = Nothing
-
 -- what an operation uses for a PAR
 unfoldable pub used_by_par : Op → Uses
 used_by_par EndProcess = A

@@ -6,15 +6,16 @@ ghost use Rattle.module_format.specs.Contents.{contents_of};
 ghost use Rattle.certificate.specs.Starts.{procedure_at};
 ghost use Rattle.certificate.specs.Branches.{branch_at};
 ghost use Rattle.states.specs.Views.{state_of};
-ghost use Rattle.sentences.specs.Begun.{begun_text, procedure_begun, branch_begun, constant_of, branch_by};
+ghost use Rattle.sentences.specs.Begun.{begun_text, procedure_begun, branch_begun, branch_by};
 ghost use Rattle.sentences.specs.Begun.{branch_target};
 ghost use Rattle.sentences.specs.Begun.{branch_part, row_target};
 
 use crate::leads::target;
 use certificate::Module;
 use fact_texts::context_text;
+use found_parts::constant_of;
 use machine_state::{Instruction, Op};
-use module_format::{Fact, Stack, Tables};
+use module_format::{Stack, Tables};
 use states::Known;
 use std::alloc::AllocError;
 
@@ -51,21 +52,6 @@ fn push_branch_begun(text: &mut String, module: &Module, at: u32) -> Result<(), 
     match module.branch_at(at) {
         Some((context, _par, _row)) => push_context(text, module.tables(), context),
         None => text.push_str("; none begins there"),
-    }
-}
-
-/// The one number that a fact says.
-pub(crate) fn constant_of(fact: Fact) -> Option<i32>
-    ensures { result ≡ constant_of fact }
-{
-    match fact {
-        Fact::Number { lo, hi } => {
-            if lo <= hi && hi <= lo {
-                return Some(lo);
-            }
-            None
-        }
-        _ => None,
     }
 }
 

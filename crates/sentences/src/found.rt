@@ -4,7 +4,7 @@ ghost use Rattle.std.specs.Prelude.{◌≡◌, ◌<◌, ◌^◌, pos, ◌+ℤ◌
 ghost use Rattle.certificate.specs.Branches.{branch_at};
 ghost use Rattle.module_format.specs.Contents.{contents_of};
 ghost use Rattle.states.specs.Views.{state_of};
-ghost use Rattle.sentences.specs.Found.{registers_found, unknown_found, number_found, offset_found};
+ghost use Rattle.sentences.specs.Found.{registers_found, bytes_words, bytes_found, unknown_found, number_found, offset_found};
 ghost use Rattle.sentences.specs.Found.{move_found, pointer_by, pointer_found};
 ghost use Rattle.sentences.specs.Found.{signed_text, phrase, target_words, target_found, word_words, word_of};
 ghost use Rattle.sentences.specs.Found.{word_found};
@@ -13,20 +13,23 @@ ghost use Rattle.sentences.specs.Found.{order_found};
 ghost use Rattle.sentences.specs.Found.{par_found, way_by, way_found, context_found, depth_found, word_zero_found};
 ghost use Rattle.sentences.specs.Found.{first_word_found, return_found, call_found, label_found, payment_found};
 ghost use Rattle.sentences.specs.Found.{budget_found, found_by, found};
-ghost use Rattle.sentences.specs.Found.{channel_by, end_found, message_found, start_found, in_context, callee_found};
+ghost use Rattle.sentences.specs.Found.{channel_by, end_found, message_found, started_part, start_found, in_context, callee_found};
 ghost use Rattle.sentences.specs.Found.{call_target, lo_words, hi_words, bounds_text, bounds_part, place_found};
 ghost use Rattle.sentences.specs.Found.{workspace_words, branch_started, workspace_text, workspace_found};
-ghost use Rattle.sentences.specs.Found.{own_word_found};
+ghost use Rattle.sentences.specs.Found.{own_word_found, regions_found};
 
 use crate::begun::{branch_target, push_branch_part, push_procedure_begun};
 use crate::channels::{push_channel, push_length};
 use crate::leads::{push_lead_lack, target};
 use crate::moves::{brings_mixed, mixed_words};
 use crate::parameters::{asks_parameters, push_arguments};
+use crate::parts::{push_guard, push_word as push_word_part};
 use crate::payments::push_asked;
-use crate::uses::{Uses, used, used_by, used_for_guards, used_for_pars};
+use crate::started::{push_fault_part, push_shared_part};
+use crate::uses::{Uses, used, used_by, used_for_pars};
 use certificate::Module;
 use fact_texts::{FactText, RangeText, context_text, is_unknown};
+use found_parts::unknown_word;
 use machine_state::{Instruction, Op};
 use module_format::{Context, Stack, Tables};
 use prefix_decoder::Instr;
@@ -59,21 +62,39 @@ fn push_registers(text: &mut String, uses: Uses, stack: Stack<Known>) -> Result<
     }
 }
 
-/// The first register of which nothing is known; if there is none, it is a byte of a message.
-#[tactic(auto, unfolding(crate::specs::Found::unknown_found))]
-fn unknown_found(stack: Stack<Known>) -> &'static str
-    ensures { result.now ≡ unknown_found stack }
+/// What is said of bytes that are sent.
+#[tactic(auto, unfolding(crate::specs::Found::bytes_words))]
+fn bytes_words() -> &'static str
+    ensures { result.now ≡ bytes_words }
 {
-    if is_unknown(stack.a.fact) {
-        return "nothing is known of A";
-    }
-    if is_unknown(stack.b.fact) {
-        return "nothing is known of B";
-    }
-    if is_unknown(stack.c.fact) {
-        return "nothing is known of C";
-    }
     "a byte of the message may be part of no number"
+}
+
+/// Appends which word is no number, of those that are sent.
+#[tactic(auto, unfolding(crate::specs::Found::bytes_found))]
+fn push_bytes(text: &mut String, state: &State) -> Result<(), AllocError>
+    ensures { OnOk result (string_bytes text.new ≡ string_bytes text.old ++ bytes_found (state_of state.now)) }
+{
+    text.push_str(bytes_words())?;
+    push_word_part(text, unknown_word(state))?;
+    Ok(())
+}
+
+/// Appends the first register of which nothing is known; if there is none, it is a byte of a message.
+#[tactic(auto, unfolding(crate::specs::Found::unknown_found))]
+fn push_unknown(text: &mut String, state: &State) -> Result<(), AllocError>
+    ensures { OnOk result (string_bytes text.new ≡ string_bytes text.old ++ unknown_found (state_of state.now)) }
+{
+    if is_unknown(state.stack.a.fact) {
+        return text.push_str("nothing is known of A");
+    }
+    if is_unknown(state.stack.b.fact) {
+        return text.push_str("nothing is known of B");
+    }
+    if is_unknown(state.stack.c.fact) {
+        return text.push_str("nothing is known of C");
+    }
+    push_bytes(text, state)
 }
 
 /// Appends the range of a result that does not fit, or else what is known of the registers that are used.
@@ -281,14 +302,14 @@ fn push_more_registers(text: &mut String, uses: Uses, stack: Stack<Known>) -> Re
     }
 }
 
-/// Appends the mode, the guards, and the registers that are used for a guard.
+/// Appends the mode, the guards, the registers that are used for a guard, and which guard is next.
 #[tactic(auto, unfolding(crate::specs::Found::order_found))]
 fn push_order(text: &mut String, instruction: Instruction, state: &State) -> Result<(), AllocError>
     ensures { OnOk result (string_bytes text.new
         ≡ string_bytes text.old ++ order_found instruction (state_of state.now)) }
 {
     push_guards(text, state)?;
-    push_more_registers(text, used_for_guards(instruction), state.stack)?;
+    push_guard(text, instruction, state)?;
     Ok(())
 }
 
@@ -303,7 +324,23 @@ fn push_par(text: &mut String, instruction: Instruction, state: &State) -> Resul
     Ok(())
 }
 
-/// Appends the same, and which branch begins where one is started.
+/// Appends which branch begins where one is started, and what its start wants that is not so.
+#[tactic(auto, unfolding(crate::specs::Found::started_part))]
+fn push_started_part(
+    text: &mut String,
+    module: &Module,
+    spot: Spot,
+    state: &State,
+) -> Result<(), AllocError>
+    ensures { OnOk result (string_bytes text.new
+        ≡ string_bytes text.old ++ started_part «module».now spot (state_of state.now)) }
+{
+    push_branch_part(text, module, spot.instruction, spot.next, state.stack)?;
+    push_fault_part(text, module, spot, state)?;
+    Ok(())
+}
+
+/// Appends the mode, the registers that are used for a PAR, and which branch begins where one is started.
 #[tactic(auto, unfolding(crate::specs::Found::start_found))]
 fn push_start(
     text: &mut String,
@@ -311,11 +348,27 @@ fn push_start(
     spot: Spot,
     state: &State,
 ) -> Result<(), AllocError>
-    ensures { OnOk result (string_bytes text.new ≡ string_bytes text.old
-        ++ start_found «module».now spot.instruction spot.next (state_of state.now)) }
+    ensures { OnOk result (string_bytes text.new
+        ≡ string_bytes text.old ++ start_found «module».now spot (state_of state.now)) }
 {
     push_par(text, spot.instruction, state)?;
-    push_branch_part(text, module, spot.instruction, spot.next, state.stack)?;
+    push_started_part(text, module, spot, state)?;
+    Ok(())
+}
+
+/// Appends what is known of the registers, and what a branch has in common with one that is started.
+#[tactic(auto, unfolding(crate::specs::Found::regions_found))]
+fn push_regions(
+    text: &mut String,
+    module: &Module,
+    spot: Spot,
+    state: &State,
+) -> Result<(), AllocError>
+    ensures { OnOk result (string_bytes text.new
+        ≡ string_bytes text.old ++ regions_found «module».now spot (state_of state.now)) }
+{
+    push_registers(text, used(spot.instruction), state.stack)?;
+    push_shared_part(text, module, spot, state)?;
     Ok(())
 }
 
@@ -599,18 +652,11 @@ fn push_budget(
     spot: Spot,
     state: &State,
 ) -> Result<(), AllocError>
-    ensures { OnOk result (string_bytes text.new ≡ string_bytes text.old ++ budget_found «module».now
-        spot.instruction spot.instr.len spot.next spot.instr.operand (state_of state.now)) }
+    ensures { OnOk result (string_bytes text.new
+        ≡ string_bytes text.old ++ budget_found «module».now spot (state_of state.now)) }
 {
     push_payment(text, spot.instr.len, state.number)?;
-    push_asked(
-        text,
-        module,
-        spot.instruction,
-        spot.next,
-        spot.instr.operand,
-        state,
-    )?;
+    push_asked(text, module, spot, state)?;
     Ok(())
 }
 
@@ -685,10 +731,10 @@ fn push_found_by(
         Rule::Spelling => text.push_str("this one has none"),
         Rule::InstructionStart => text.push_str("one starts there"),
         Rule::Flow => text.push_str("nothing leads here"),
-        Rule::UnknownRegister => text.push_str(unknown_found(state.stack)),
+        Rule::UnknownRegister => push_unknown(text, state),
         Rule::Number => push_number(text, uses, state.stack, sum),
         Rule::Pointer => push_pointer(text, spot, state),
-        Rule::RegionsMeet => push_registers(text, uses, state.stack),
+        Rule::RegionsMeet => push_regions(text, module, spot, state),
         Rule::Channel => push_end(text, instruction, state.stack),
         Rule::MessageLength => push_message(text, module, instruction, state),
         Rule::Alternation => push_order(text, instruction, state),

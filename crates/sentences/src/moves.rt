@@ -6,7 +6,7 @@ ghost use Rattle.rulings.specs.Pointers.{are_near};
 ghost use Rattle.sentences.specs.Moves.{place_of, is_parameter, is_in_parameter, is_moved, are_mixed, has_mixed};
 ghost use Rattle.sentences.specs.Moves.{brings_mixed, mixed_words};
 
-use crate::begun::constant_of;
+use found_parts::constant_of;
 use machine_state::MOST_MOVED;
 use module_format::{Fact, Region};
 use rulings::filling::are_numbers;

@@ -7,13 +7,16 @@ ghost use Rattle.certificate.specs.Starts.{procedure_at};
 ghost use Rattle.states.specs.Views.{state_of};
 ghost use Rattle.sentences.specs.Leads.{lead_of};
 ghost use Rattle.sentences.specs.Payments.{label_words, procedure_words, cost_text, label_asked, procedure_asked};
-ghost use Rattle.sentences.specs.Payments.{lead_asked, asked_text};
+ghost use Rattle.sentences.specs.Payments.{ends_turn, turn_at, label_text, lead_asked, asked_text};
 
 use crate::costs::label_cost;
+use crate::found::Spot;
 use crate::leads::{lead_of, target};
+use crate::parts::push_turn;
 use crate::ways::Way;
 use certificate::Module;
-use machine_state::Instruction;
+use found_parts::{Turn, turn_of};
+use machine_state::{Instruction, Op};
 use states::State;
 use std::alloc::AllocError;
 
@@ -43,19 +46,53 @@ fn push_cost(text: &mut String, words: &str, cost: u128) -> Result<(), AllocErro
     Ok(())
 }
 
+/// Whether an instruction ends a turn of a loop.
+fn ends_turn(instruction: Instruction) -> bool
+    ensures { result ≡ ends_turn instruction }
+{
+    matches!(instruction, Instruction::Operate(Op::LoopEnd))
+}
+
+/// The turn that ends at an instruction, where the label asks this.
+fn turn_at(spot: Spot, state: &State, asked: u128) -> Option<Turn>
+    ensures { result ≡ turn_at spot (state_of state.now) asked }
+{
+    if !ends_turn(spot.instruction) {
+        return None;
+    }
+    turn_of(state, spot.instr.len, asked)
+}
+
+/// Appends what a label costs, and where a turn ends what that costs.
+#[tactic(auto, unfolding(crate::specs::Payments::label_text))]
+fn push_label_cost(
+    text: &mut String,
+    spot: Spot,
+    state: &State,
+    asked: u128,
+) -> Result<(), AllocError>
+    ensures { OnOk result (string_bytes text.new
+        ≡ string_bytes text.old ++ label_text spot (state_of state.now) asked) }
+{
+    push_cost(text, label_words(), asked)?;
+    push_turn(text, turn_at(spot, state, asked))?;
+    Ok(())
+}
+
 /// Appends what the label at an offset costs.
 fn push_label_asked(
     text: &mut String,
     module: &Module,
     to: u32,
     way: Way,
+    spot: Spot,
     state: &State,
 ) -> Result<(), AllocError>
     ensures { OnOk result (string_bytes text.new ≡ string_bytes text.old
-        ++ label_asked way (state_of state.now) (label_at «module».now to)) }
+        ++ label_asked way spot (state_of state.now) (label_at «module».now to)) }
 {
     match module.label_at(to) {
-        Some(row) => push_cost(text, label_words(), label_cost(way, state, row)),
+        Some(row) => push_label_cost(text, spot, state, label_cost(way, state, row)),
         None => text.push_str(""),
     }
 }
@@ -75,35 +112,36 @@ fn push_procedure_asked(text: &mut String, module: &Module, to: u32) -> Result<(
 fn push_lead_asked(
     text: &mut String,
     module: &Module,
-    instruction: Instruction,
-    next: usize,
-    operand: i32,
+    spot: Spot,
     state: &State,
 ) -> Result<(), AllocError>
-    ensures { OnOk result (string_bytes text.new ≡ string_bytes text.old ++ lead_asked «module».now next
-        (state_of state.now) (lead_of instruction operand (state_of state.now).stack)) }
+    ensures { OnOk result (string_bytes text.new ≡ string_bytes text.old ++ lead_asked «module».now spot
+        (state_of state.now) (lead_of spot.instruction spot.instr.operand (state_of state.now).stack)) }
 {
-    match lead_of(instruction, operand, state.stack) {
-        Some(lead) => push_label_asked(text, module, target(next, lead.distance), lead.way, state),
+    match lead_of(spot.instruction, spot.instr.operand, state.stack) {
+        Some(lead) => {
+            let to = target(spot.next, lead.distance);
+            push_label_asked(text, module, to, lead.way, spot, state)
+        }
         None => text.push_str(""),
     }
 }
 
-/// Appends what is asked where an instruction leads. `next`: the offset after it.
+/// Appends what is asked where an instruction leads.
 #[tactic(auto, unfolding(crate::specs::Payments::asked_text))]
 pub(crate) fn push_asked(
     text: &mut String,
     module: &Module,
-    instruction: Instruction,
-    next: usize,
-    operand: i32,
+    spot: Spot,
     state: &State,
 ) -> Result<(), AllocError>
     ensures { OnOk result (string_bytes text.new ≡ string_bytes text.old
-        ++ asked_text «module».now instruction next operand (state_of state.now)) }
+        ++ asked_text «module».now spot (state_of state.now)) }
 {
-    match instruction {
-        Instruction::Call => push_procedure_asked(text, module, target(next, operand)),
-        _ => push_lead_asked(text, module, instruction, next, operand, state),
+    match spot.instruction {
+        Instruction::Call => {
+            push_procedure_asked(text, module, target(spot.next, spot.instr.operand))
+        }
+        _ => push_lead_asked(text, module, spot, state),
     }
 }

@@ -1,7 +1,7 @@
 //! The registers that instructions use.
 
 ghost use Rattle.std.specs.Prelude.{◌≡◌};
-ghost use Rattle.sentences.specs.Uses.{used_by, used, used_by_guard, used_for_guards, used_by_par, used_for_pars};
+ghost use Rattle.sentences.specs.Uses.{used_by, used, used_by_par, used_for_pars};
 
 use machine_state::{Instruction, Op};
 
@@ -55,30 +55,6 @@ pub(crate) fn used(instruction: Instruction) -> Uses
         Instruction::StoreNonLocal => Uses::AAndB,
         Instruction::Call => Uses::All,
         Instruction::Operate(op) => used_by(op),
-        _ => Uses::Nothing,
-    }
-}
-
-/// The registers that an operation uses for a guard.
-#[tactic(auto, unfolding(crate::specs::Uses::used_by_guard))]
-fn used_by_guard(op: Op) -> Uses
-    ensures { result ≡ used_by_guard op }
-{
-    match op {
-        Op::EnableSkip => Uses::A,
-        Op::EnableChannel | Op::DisableSkip => Uses::AAndB,
-        Op::DisableChannel => Uses::All,
-        _ => Uses::Nothing,
-    }
-}
-
-/// The registers that an instruction uses for a guard.
-#[tactic(auto, unfolding(crate::specs::Uses::used_for_guards))]
-pub(crate) fn used_for_guards(instruction: Instruction) -> Uses
-    ensures { result ≡ used_for_guards instruction }
-{
-    match instruction {
-        Instruction::Operate(op) => used_by_guard(op),
         _ => Uses::Nothing,
     }
 }

@@ -1,0 +1,3 @@
+pub mod Nothing
+pub mod SharedParts
+pub mod Unmet

@@ -1,0 +1,13 @@
+pub mod Firsts
+pub mod Asked
+pub mod Names
+pub mod Guards
+pub mod Messages
+pub mod Turns
+pub mod FaultTexts
+pub mod Openings
+pub mod Successors
+pub mod Gifts
+pub mod Starts
+pub mod Sharing
+pub mod Asking
