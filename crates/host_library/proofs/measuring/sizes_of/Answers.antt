@@ -1,5 +1,4 @@
-use Rattle.std.proofs.Common.{◌≡◌, refl, subst, sym, ap}
-use Rattle.module_format.specs.Contents.{Contents}
+use Rattle.std.proofs.Common.{◌≡◌, refl, subst, sym}
 use Rattle.certified_worlds.specs.Certified.{IsCertified}
 use Rattle.host_library.specs.declared.failure.HostFailure.TheVariants.{Memory}
 use Rattle.host_library.specs.Sizes.{AreSizes}
