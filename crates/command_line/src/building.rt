@@ -209,7 +209,7 @@ fn with_descriptions<'a>(alloc: Global, command: Command<'a>) -> Result<Command<
         alloc,
         command,
         "explain",
-        "Explains the verdict on a module",
+        "Explains the verdict on a module, or a source",
     )
 }
 

@@ -9,18 +9,14 @@ use std::alloc::AllocError;
 
 /// Some bytes of a line.
 #[derive(Clone, Copy)]
-pub(crate) struct Span {
-    pub(crate) at: usize,
-    pub(crate) len: usize,
+pub struct Span {
+    /// How many bytes of the line are before them.
+    pub at: usize,
+    pub len: usize,
 }
 
 /// Appends where a fault is, as editors read it.
-pub(crate) fn push_place(
-    text: &mut String,
-    path: &str,
-    line: u32,
-    at: usize,
-) -> Result<(), AllocError>
+pub fn push_place(text: &mut String, path: &str, line: u32, at: usize) -> Result<(), AllocError>
     requires { at < 2 ^ 63 }
     ensures { OnOk result (string_bytes text.new ≡ string_bytes text.old ++ place_text path.now line at) }
 {
@@ -29,14 +25,14 @@ pub(crate) fn push_place(
 }
 
 /// Appends the number of a fault.
-pub(crate) fn push_number(text: &mut String, number: u8) -> Result<(), AllocError>
+pub fn push_number(text: &mut String, number: u8) -> Result<(), AllocError>
     ensures { OnOk result (string_bytes text.new ≡ string_bytes text.old ++ number_text number) }
 {
     writeln!(text, " (O{number})")
 }
 
 /// A byte of a line as it is shown.
-fn shown_byte(byte: u8) -> u8
+pub fn shown_byte(byte: u8) -> u8
     ensures value { result ≡ shown_byte byte }
     ensures ascii { result < 128 }
 {
@@ -64,7 +60,7 @@ fn part(line: &[u8], from: usize, len: usize) -> &[u8]
 }
 
 /// Some bytes of a line, of which at most 100 are told.
-pub(crate) fn meant(line: &[u8], at: usize, len: usize) -> &[u8]
+pub fn meant(line: &[u8], at: usize, len: usize) -> &[u8]
     ensures { result.now ≡ meant line.now at len }
 {
     part(line, at, len.min(100))
@@ -133,7 +129,7 @@ fn push_below(text: &mut String, before: usize, len: usize) -> Result<(), AllocE
 
 /// Appends a line, and carets below some of its bytes.
 #[tactic(auto, unfolding(crate::specs::Blocks::block_text))]
-pub(crate) fn push_block(text: &mut String, line: &[u8], span: Span) -> Result<(), AllocError>
+pub fn push_block(text: &mut String, line: &[u8], span: Span) -> Result<(), AllocError>
     ensures { OnOk result (string_bytes text.new ≡ string_bytes text.old ++ block_text line.now span.at span.len) }
 {
     let from = span.at.saturating_sub(100);
@@ -144,7 +140,7 @@ pub(crate) fn push_block(text: &mut String, line: &[u8], span: Span) -> Result<(
 }
 
 /// Appends a hint, if there is one.
-pub(crate) fn push_hint(text: &mut String, hint: Option<&str>) -> Result<(), AllocError>
+pub fn push_hint(text: &mut String, hint: Option<&str>) -> Result<(), AllocError>
     ensures { OnOk result (string_bytes text.new
         ≡ string_bytes text.old ++ hint_text (option_map (λ h. h.now) hint.entry)) }
 {

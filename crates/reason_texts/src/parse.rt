@@ -54,7 +54,7 @@ fn end_of(tokens: &[Token<'_>]) -> u32
 }
 
 /// All tokens of a line that begins at an offset.
-fn line_span(offset: usize, tokens: &[Token<'_>]) -> Span
+pub fn line_span(offset: usize, tokens: &[Token<'_>]) -> Span
     ensures all { result ≡ line_span offset tokens.now }
     ensures small { result.at < 2 ^ 32 }
 {
@@ -543,7 +543,7 @@ fn push_whole(
 }
 
 /// The line with this number.
-fn line_of<'l, 'a>(number: u32, lines: &'l [Line<'a>]) -> Option<&'l Line<'a>>
+pub fn line_of<'l, 'a>(number: u32, lines: &'l [Line<'a>]) -> Option<&'l Line<'a>>
     ensures { option_copied result ≡ line_of number lines.now }
 {
     lines.iter().find(|line| line.number == number)

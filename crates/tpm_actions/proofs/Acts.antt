@@ -3,7 +3,7 @@ use Rattle.std.proofs.Common.{◌≡◌, ℕ, Bool, List, Option, Some, Result, 
 use Rattle.std.specs.Prelude.{string_bytes}
 use Rattle.std.specs.Borrow.{Bor}
 use Rattle.command_line.specs.Words.{Text}
-use Rattle.verifier.specs.declared.Refusal.{Refusal}
+use Rattle.tpm_actions.specs.declared.report.RefusedFor.{RefusedFor}
 use Rattle.tpm_actions.specs.declared.extent.Extent.{Extent}
 use Rattle.tpm_actions.specs.declared.files.FileFault.{FileFault}
 use Rattle.tpm_actions.specs.Extents.{extent_of}
@@ -130,7 +130,7 @@ module _ {F R W : Type 0} (opens : F → Text → Result R FileFault → F → T
   told_in_part text failures.Memory part tells = absurd tells
 
   -- the text that explains a refusal
-  pub explained_in_part : (refusal : Refusal) (text : Text) (failure : Failure)
+  pub explained_in_part : (refusal : RefusedFor) (text : Text) (failure : Failure)
       → Reads opens creates closes left read_failed written write_failed reads asked before
       (λ bytes next. IsRefusedWith bytes asked refusal text × (after ≡ next))
       → Tells out_before out_after text (Err failure)

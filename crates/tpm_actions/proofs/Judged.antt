@@ -1,16 +1,21 @@
 -- What is reported about a compiled source, an upgraded module, a run on the machine that checks each rule, and a module
 -- of which something is asked, or why nothing is.
-use Rattle.std.proofs.Common.{ℕ, Bool, List, Option, Result, Ok, Err, MatchResult, ◌⊎◌, inl, inr}
+use Rattle.std.proofs.Common.{◌≡◌, ℕ, Bool, List, Option, Result, Ok, Err, MatchResult, ◌⊎◌, inl, inr, refl, subst, sym}
 use Rattle.command_line.specs.Words.{Text}
 use Rattle.std.specs.Prelude.{string_bytes}
 use Rattle.module_format.specs.Contents.{Contents}
 use Rattle.module_format.specs.Keeping.{Format}
-use Rattle.verifier.specs.declared.Refusal.{Refusal}
+use Rattle.module_format.specs.declared.fault.FormatFault.{FormatFault}
+use Rattle.tpm_actions.specs.declared.report.RefusedFor.{RefusedFor}
+use Rattle.tpm_actions.specs.declared.report.RefusedFor.TheVariants as refused
+use Rattle.tpm_actions.specs.Explaining.{ExplainsFault, ExplainsSource, IsFaultExplained, IsSourceExplained, IsUnread}
+use Rattle.tpm_actions.specs.Explaining.{WithholdsSource}
+use Rattle.tpm_actions.specs.Malformed.{IsMalformed}
 use Rattle.tpm_actions.specs.declared.files.FileFault.{FileFault}
 use Rattle.tpm_actions.specs.declared.report.Failure.{Failure}
 use Rattle.tpm_actions.specs.declared.report.Failure.TheVariants as failures
 use Rattle.command_line.specs.declared.links.OnLinks.{OnLinks}
-use Rattle.command_line.specs.Asked.{compiles, upgrades, debugs, asked_about}
+use Rattle.command_line.specs.Asked.{compiles, upgrades, debugs, explains, asked_about}
 use Rattle.tpm_actions.specs.Programs.{TellsProgram, WithholdsProgram}
 use Rattle.command_line.specs.declared.lines.Question.{Question}
 use Rattle.command_line.specs.declared.lines.Question.TheVariants.{Verdict, Run, Listing, Explanation}
@@ -125,6 +130,71 @@ module _ {F R W : Type 0} (opens : F → Text → Result R FileFault → F → T
   program_judged text_of bytes path inputs outputs limit trace before after (Err failure) why =
       program_withheld bytes path inputs outputs limit trace before after failure why
 
+  module _ (bytes : List ℕ) (path : Text) (before : F) where
+    source_refused : (refusal : RefusedFor) (text : Text) → ExplainsSource path bytes refusal text
+        → IsRefusedWith bytes (explains path) refusal text
+    source_refused (refused.Malformed fault) text is = absurd is
+    source_refused (refused.Uncertified refusal) text is = absurd is
+    source_refused (refused.Uncompiled fault) text is = is
+
+    source_withheld : (failure : Failure) → WithholdsSource path bytes failure
+        → IsHindered opens creates closes left read_failed written write_failed bytes (explains path) before before
+        failure
+    source_withheld (failures.Malformed fault) why = absurd why
+    source_withheld (failures.Uncertified refusal) why = absurd why
+    source_withheld (failures.Explained refusal text) why = (source_refused refusal (string_bytes text) why, refl)
+    source_withheld (failures.Faulted fault text) why = absurd why
+    source_withheld (failures.Uncompiled fault) why = (why, refl)
+    source_withheld (failures.NotUpgraded fault) why = absurd why
+    source_withheld (failures.Unread missing) why = absurd why
+    source_withheld (failures.Uncreated missing) why = absurd why
+    source_withheld (failures.ReadFailed link) why = absurd why
+    source_withheld (failures.WriteFailed link) why = absurd why
+    source_withheld failures.Unwritten why = absurd why
+    source_withheld failures.Memory why = inr (inr (why, refl))
+
+    -- the answer that explaining a source gives
+    pub source_judged : {S : Type 0} (text_of : S → Text) (result : Result S Failure)
+        → MatchResult result (λ text. IsSourceExplained bytes (text_of text)) (WithholdsSource path bytes)
+        → MatchResult result
+        (λ text. IsTold opens creates closes left read_failed written write_failed bytes (explains path) before before
+        (text_of text))
+        (IsHindered opens creates closes left read_failed written write_failed bytes (explains path) before before)
+    source_judged text_of (Ok text) has = inr (has, refl)
+    source_judged text_of (Err failure) why = source_withheld failure why
+
+  module _ (bytes : List ℕ) (path : Text) (fault : FormatFault) (malformed : IsMalformed bytes fault) (before : F) where
+    fault_explained : (question : Question) (refusal : RefusedFor) (text : Text)
+        → ExplainsFault bytes question fault refusal text
+        → IsRefusedWith bytes (asked_about path question) refusal text
+    fault_explained Verdict refusal text is = absurd is
+    fault_explained (Run inputs outputs) refusal text is = absurd is
+    fault_explained Listing refusal text is = absurd is
+    fault_explained Explanation (refused.Malformed told) text is =
+        subst (λ (f : FormatFault). IsFaultExplained bytes f text) (sym is.0)
+        (record { malformed = malformed; told = is.1 })
+    fault_explained Explanation (refused.Uncertified refusal) text is = absurd is
+    fault_explained Explanation (refused.Uncompiled told) text is = absurd is
+
+    -- the answer where the bytes are no module file
+    pub unread : (question : Question) (failure : Failure) → IsUnread bytes question fault failure
+        → IsHindered opens creates closes left read_failed written write_failed bytes (asked_about path question) before
+        before failure
+    unread question (failures.Malformed told) is =
+        (subst (λ (f : FormatFault). IsMalformed bytes f) (sym is) malformed, refl)
+    unread question (failures.Uncertified refusal) is = absurd is
+    unread question (failures.Explained refusal text) is =
+        (fault_explained question refusal (string_bytes text) is, refl)
+    unread question (failures.Faulted why text) is = absurd is
+    unread question (failures.Uncompiled why) is = absurd is
+    unread question (failures.NotUpgraded why) is = absurd is
+    unread question (failures.Unread missing) is = absurd is
+    unread question (failures.Uncreated missing) is = absurd is
+    unread question (failures.ReadFailed link) is = absurd is
+    unread question (failures.WriteFailed link) is = absurd is
+    unread question failures.Unwritten is = absurd is
+    unread question failures.Memory is = absurd is
+
   module _ (bytes : List ℕ) (m : Contents) (format : Format bytes m) (path : Text) (before after : F) where
     -- what is reported about the module
     told : (question : Question) (text : Text)
@@ -135,7 +205,7 @@ module _ {F R W : Type 0} (opens : F → Text → Result R FileFault → F → T
     told Verdict text tells = record { contents = m; format = format; told = tells }
     told (Run inputs outputs) text tells = record { contents = m; format = format; told = tells }
     told Listing text tells = record { contents = m; format = format; told = tells }
-    told Explanation text tells = record { contents = m; format = format; told = tells }
+    told Explanation text tells = inl (record { contents = m; format = format; told = tells })
 
     stopped : (question : Question) (failure : Failure) → IsAllowed m (asked_about path question)
         → StopsIn opens creates closes left read_failed written write_failed m (asked_about path question) before after
@@ -156,15 +226,19 @@ module _ {F R W : Type 0} (opens : F → Text → Result R FileFault → F → T
     untold (Run inputs outputs) allowed done =
         record { contents = m; format = format; certified = allowed; holds = done }
     untold Listing allowed done = record { contents = m; format = format; certified = allowed; holds = done }
-    untold Explanation allowed done = record { contents = m; format = format; certified = allowed; holds = done }
+    untold Explanation allowed done =
+        inl (record { contents = m; format = format; certified = allowed; holds = done })
 
-    explained : (question : Question) (refusal : Refusal) (text : Text)
+    explained : (question : Question) (refusal : RefusedFor) (text : Text)
         → ExplainsTo m (asked_about path question) refusal text
         → IsRefusedWith bytes (asked_about path question) refusal text
-    explained Verdict refusal text explains = absurd explains
-    explained (Run inputs outputs) refusal text explains = absurd explains
-    explained Listing refusal text explains = absurd explains
-    explained Explanation refusal text explains = record { contents = m; format = format; explained = explains }
+    explained Verdict refusal text is = absurd is
+    explained (Run inputs outputs) refusal text is = absurd is
+    explained Listing refusal text is = absurd is
+    explained Explanation (refused.Malformed fault) text is = absurd is
+    explained Explanation (refused.Uncertified refusal) text is =
+        record { contents = m; format = format; explained = is }
+    explained Explanation (refused.Uncompiled fault) text is = absurd is
 
     withheld : (question : Question) (failure : Failure)
         → WithholdsOf opens creates closes left read_failed written write_failed m (asked_about path question) before

@@ -10,3 +10,4 @@ pub mod UnreadFiles
 pub mod ProgramsRun
 pub mod Driven
 pub mod EitherRead
+pub mod UsageTold

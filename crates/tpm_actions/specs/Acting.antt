@@ -9,6 +9,7 @@ use Rattle.module_format.specs.Contents.{Contents}
 use Rattle.module_format.specs.Keeping.{Format}
 use Rattle.link_runner.specs.declared.report.Report.{Report as RunReport}
 use Rattle.verifier.specs.declared.Refusal.{Refusal}
+use Rattle.tpm_actions.specs.declared.report.RefusedFor.{RefusedFor}
 use Rattle.certified_worlds.specs.Certified.{IsCertified}
 use Rattle.compiler.specs.Compiled.{IsRefusedFor}
 use Rattle.verifier.specs.Reports.{Reports, out_of_memory}
@@ -26,7 +27,7 @@ use Rattle.command_line.specs.Asked.{Asked, compiles, upgrades, verifies, runs, 
 use Rattle.command_line.specs.Asked.{wants_verdict}
 use Rattle.command_line.specs.CommandLine.{line_of}
 use Rattle.tpm_actions.specs.Compiling.{CompilesAndWrites, HasCompiled, IsRefusedAs}
-use Rattle.tpm_actions.specs.Explaining.{ExplainsRefusal, IsExplained, IsRefusalExplained}
+use Rattle.tpm_actions.specs.Explaining.{ExplainsBytes, ExplainsModule, IsCorrect, IsExplained, IsSourceExplained}
 use Rattle.tpm_actions.specs.Malformed.{IsMalformed}
 use Rattle.tpm_actions.specs.Upgrading.{HasUpgraded, IsRefusedUpgrade, UpgradesAndWrites}
 use Rattle.tpm_actions.specs.FilesOnLinks.{RunsTo}
@@ -83,13 +84,13 @@ pub record IsUncertified (bytes : List ℕ) (asked : Asked) (refusal : Refusal) 
   pub withheld : Withholds contents asked refusal
 
 -- An explanation is asked for. The module is refused for this, and this text explains it.
-abbrev pub ExplainsTo : Contents → Asked → Refusal → Text → Type 0
-ExplainsTo m (explains path) refusal text = ExplainsRefusal m refusal text
+abbrev pub ExplainsTo : Contents → Asked → RefusedFor → Text → Type 0
+ExplainsTo m (explains path) refusal text = ExplainsModule m refusal text
 ExplainsTo m asked refusal text = ⊥
 
--- The bytes are the file of such a module.
-abbrev pub IsRefusedWith : List ℕ → Asked → Refusal → Text → Type 0
-IsRefusedWith bytes (explains path) refusal text = IsRefusalExplained bytes refusal text
+-- An explanation is asked for. The bytes are refused for this reason, and this text explains it.
+abbrev pub IsRefusedWith : List ℕ → Asked → RefusedFor → Text → Type 0
+IsRefusedWith bytes (explains path) refusal text = ExplainsBytes path bytes refusal text
 IsRefusedWith bytes asked refusal text = ⊥
 
 -- A source is asked for that becomes no module. Where it was to be compiled to a file, this says where and why.
@@ -97,6 +98,7 @@ abbrev pub IsUncompiled : List ℕ → Asked → RefusedSource → Type 0
 IsUncompiled bytes (compiles source out) why = IsRefusedAs source bytes why
 IsUncompiled bytes (debugs path inputs outputs limit trace) why =
     (begins_as_module bytes ≡ false) × IsRefusedFor bytes why.fault
+IsUncompiled bytes (explains path) why = (begins_as_module bytes ≡ false) × IsRefusedAs path bytes why
 IsUncompiled bytes asked why = ⊥
 
 -- A module in version 2 is asked for, and there is none for this reason.
@@ -207,6 +209,8 @@ module _ {F R W : Type 0} (opens : F → Text → Result R FileFault → F → T
   IsTold bytes (upgrades old new) before after text = HasUpgraded creates closes written bytes new before after text
   IsTold bytes (debugs path inputs outputs limit trace) before after text =
       TellsProgram opens creates closes left read_failed written write_failed inputs outputs limit before after bytes text
+  IsTold bytes (explains path) before after text =
+      IsToldOfModule bytes (explains path) before after text ⊎ (IsSourceExplained bytes text × (after ≡ before))
   IsTold bytes asked before after text = IsToldOfModule bytes asked before after text
 
   -- The bytes are a source or a module whose new file was not written, or the file of a module, and what is asked for
@@ -228,6 +232,9 @@ module _ {F R W : Type 0} (opens : F → Text → Result R FileFault → F → T
   IsUntold bytes (upgrades old new) before after =
       (u : ⊤) × UpgradesAndWrites creates closes written bytes new before after (Ok u)
   IsUntold bytes (debugs path inputs outputs limit trace) before after = ⊥
+  IsUntold bytes (explains path) before after =
+      IsJudged bytes (explains path) (λ m. IsDone m (explains path) before after)
+      ⊎ (IsCorrect bytes × (after ≡ before))
   IsUntold bytes asked before after = IsJudged bytes asked (λ m. IsDone m asked before after)
 
   -- why nothing is reported about the source or the module in the bytes, or why the module is refused that is explained
@@ -260,10 +267,10 @@ module _ {F R W : Type 0} (opens : F → Text → Result R FileFault → F → T
     abbrev pub Hinders : Asked → F → F → Failure → Type 0
     Hinders asked before after failure = Reads asked before (λ bytes next. IsHindered bytes asked next after failure)
 
-    -- The module in the file is refused, and this text explains it.
+    -- The file is refused, and this text explains it.
     abbrev pub RefusesWith : Asked → F → F → Text → Type 0
     RefusesWith asked before after text =
-        (refusal : Refusal) × Reads asked before (λ bytes next. IsRefusedWith bytes asked refusal text × (after ≡ next))
+        (refusal : RefusedFor) × Reads asked before (λ bytes next. IsRefusedWith bytes asked refusal text × (after ≡ next))
 
     -- The run of what is in the file was brought to a fault, and this text says how far it came.
     abbrev pub FaultsWith : Asked → F → F → Text → Type 0
@@ -321,7 +328,7 @@ module _ {F R W : Type 0} (opens : F → Text → Result R FileFault → F → T
       refused : (asked : Asked) → line_of words ≡ Some asked
           → Reads asked before (λ bytes next. IsRefusedBy bytes asked × (after ≡ next))
           → out_after ≡ out_before → status ≡ REFUSED → Acts words before after out_before out_after status
-      -- the verifier refuses the module, which is explained, and nothing else
+      -- the reader, the verifier or the compiler refuses the file, which is explained, and nothing else
       explained : (asked : Asked) (text : Text) → line_of words ≡ Some asked → RefusesWith asked before after text
           → Appends out_before out_after text → status ≡ REFUSED → Acts words before after out_before out_after status
       -- a process is at fault in the run of what is in the file, and how far it came is reported

@@ -1,12 +1,19 @@
 -- A source that is compiled, and the file that its module is written to: our own choice.
-use Rattle.std.specs.Prelude.{◌≡◌, ◌⊎◌, ⊤, ℕ, Bool, true, List, length, Option, Some, Result, Ok, Err, IfSome}
+use Rattle.std.specs.Prelude.{◌≡◌, ◌⊎◌, ⊤, ℕ, Bool, true, List, ◌++◌, codes, length, Option, Some, Result, Ok, Err, IfSome}
 use Rattle.std.specs.Prelude.{string_bytes}
 use Rattle.std.specs.Io.KnownBytes.{Appends}
 use Rattle.command_line.specs.Words.{Text}
 use Rattle.occam_layout.specs.declared.token.Line.{Line}
+use Rattle.program_uses.specs.declared.telling.UsageFault.{UsageFault}
+use Rattle.usage_reasons.specs.declared.reason.Reason.{Reason}
+use Rattle.usage_reasons.specs.Reasons.{IsReasonOf}
+use Rattle.usage_texts.specs.UsageTexts.{usage_text}
 use Rattle.occam_parser.specs.declared.fault.ParseFault.{ParseFault}
 use Rattle.reason_texts.specs.LayoutTexts.{layout_text}
 use Rattle.reason_texts.specs.ParseTexts.{parse_text}
+use Rattle.limit_reasons.specs.LimitTexts.{IsLimitText}
+use Rattle.module_builder.specs.declared.fault.GenFault.{GenFault}
+use Rattle.module_builder.specs.declared.fault.GenFault.TheVariants as generation
 use Rattle.compiler.specs.declared.source.CompileFault.{CompileFault}
 use Rattle.compiler.specs.declared.source.CompileFault.TheVariants as faults
 use Rattle.compiler.specs.Compiled.{HasLines, IsCompiled, IsRefusedFor}
@@ -24,13 +31,47 @@ pub record IsParseReason (path : Text) (source : List ℕ) (fault : ParseFault) 
   pub has_lines : HasLines source lines
   pub written : parse_text path source lines fault ≡ Some text
 
--- What is written of a source before the fault for which it is refused: why it has no lines of tokens, or why they are
--- no program.
+-- The reason is one of the fault, on a line with some number of tokens.
+pub record IsSomeReasonOf (fault : UsageFault) (reason : Reason) : Type 0 where
+  pub count : ℕ
+  pub is_reason : IsReasonOf count fault reason
+
+-- This is written of a program with these lines, by a reason of its fault.
+pub record IsUsageText (path : Text) (source : List ℕ) (lines : List Line) (fault : UsageFault) (text : Text) :
+    Type 0 where
+  pub reason : Reason
+  pub is_reason : IsSomeReasonOf fault reason
+  pub written : usage_text path source lines reason fault.number ≡ Some text
+
+-- The source has lines, and this is written of their program, which breaks a rule of usage.
+pub record IsUsageReason (path : Text) (source : List ℕ) (fault : UsageFault) (text : Text) : Type 0 where
+  pub lines : List Line
+  pub has_lines : HasLines source lines
+  pub written : IsUsageText path source lines fault text
+
+-- The source has lines, and this is written of their program, which is above a limit.
+pub record IsLimitReason (path : Text) (source : List ℕ) (text : Text) : Type 0 where
+  pub lines : List Line
+  pub has_lines : HasLines source lines
+  pub written : IsLimitText path source lines text
+
+-- what is written of a program whose module the verifier would refuse
+abbrev pub mistake_text : Text → Text
+mistake_text path = path ++ codes ": this is a mistake of the compiler; please report the source (G3)\n"
+
+-- what is written of a program that becomes no module
+abbrev pub IsGenerationReason : Text → List ℕ → GenFault → Text → Type 0
+IsGenerationReason path source generation.Limit text = IsLimitReason path source text
+IsGenerationReason path source generation.Invalid text = text ≡ mistake_text path
+IsGenerationReason path source generation.Memory text = ⊥
+
+-- What is written of a source before the fault for which it is refused: why it has no lines of tokens, why they are no
+-- program, which rule it breaks, or why it becomes no module.
 abbrev pub IsReason : Text → List ℕ → CompileFault → Text → Type 0
 IsReason path source (faults.Layout fault) text = layout_text path source fault ≡ Some text
 IsReason path source (faults.Syntax fault) text = IsParseReason path source fault text
-IsReason path source (faults.Usage fault) text = ⊥
-IsReason path source (faults.Generation fault) text = ⊥
+IsReason path source (faults.Usage fault) text = IsUsageReason path source fault text
+IsReason path source (faults.Generation fault) text = IsGenerationReason path source fault text
 
 -- The source becomes no module for this fault. What is written before it is its reason, but nothing where it has none,
 -- or where memory ran out.

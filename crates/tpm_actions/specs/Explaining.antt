@@ -1,6 +1,13 @@
--- The explanation of the verdict on a module: our own choice.
-use Rattle.std.specs.Prelude.{◌≡◌, ⊤, ℕ, List, string_bytes}
+-- The explanation of the verdict on a module, of why a file is none, or of a source: our own choice.
+use Rattle.std.specs.Prelude.{◌≡◌, ◌⊎◌, ⊤, ℕ, ◌+◌, ◌==◌, nat_eq, Bool, false, ◌||◌, if◌then◌else◌, List, [], ◌∷◌, ◌++◌}
+use Rattle.std.specs.Prelude.{codes, length, string_bytes}
+use Rattle.std.specs.List.{ends_with}
+use Rattle.std.specs.Fmt.{decimal}
 use Rattle.command_line.specs.Words.{Text}
+use Rattle.command_line.specs.declared.lines.Question.{Question}
+use Rattle.command_line.specs.declared.lines.Question.TheVariants as questions
+use Rattle.file_faults.specs.FileFaults.{file_fault}
+use Rattle.module_format.specs.declared.fault.FormatFault.{FormatFault}
 use Rattle.module_format.specs.Contents.{Contents}
 use Rattle.module_format.specs.Keeping.{Format}
 use Rattle.states.specs.declared.rule.Rule.{Rule}
@@ -11,6 +18,14 @@ use Rattle.verifier.specs.Reports.{out_of_memory}
 use Rattle.explanations.specs.Explaining.{explanation}
 use Rattle.tpm_actions.specs.declared.report.Failure.{Failure}
 use Rattle.tpm_actions.specs.declared.report.Failure.TheVariants as failures
+use Rattle.tpm_actions.specs.declared.report.RefusedFor.{RefusedFor}
+use Rattle.tpm_actions.specs.declared.report.RefusedFor.TheVariants as refused
+use Rattle.compiler.specs.declared.source.CompileFault.{CompileFault}
+use Rattle.compiler.specs.CodeLines.{ends_in}
+use Rattle.compiler.specs.Compiled.{IsCompiled, IsRefusedFor}
+use Rattle.tpm_actions.specs.Compiling.{IsReason, IsRefusedAs}
+use Rattle.tpm_actions.specs.Extents.{begins_as_module}
+use Rattle.tpm_actions.specs.Malformed.{IsMalformed}
 
 -- The module is certified, and this text is its explanation.
 pub record IsExplained (m : Contents) (text : Text) : Type 0 where
@@ -30,6 +45,79 @@ pub record IsRefusalExplained (bytes : List ℕ) (refusal : Refusal) (text : Tex
   pub format : Format bytes contents
   pub explained : ExplainsRefusal contents refusal text
 
+-- the line that explains why a file is no module file
+abbrev pub malformed_text : List ℕ → FormatFault → Text
+malformed_text bytes fault =
+    codes "refused C" ++ (decimal fault.number ++ (codes " at " ++ (decimal fault.offset ++ (codes ": "
+    ++ (file_fault bytes fault ++ 10 ∷ [])))))
+
+-- The bytes are no module file for this fault, and this text explains it.
+pub record IsFaultExplained (bytes : List ℕ) (fault : FormatFault) (text : Text) : Type 0 where
+  pub malformed : IsMalformed bytes fault
+  pub told : text ≡ malformed_text bytes fault
+
+-- no line is begun and not ended
+abbrev pub is_ended : List ℕ → Bool
+is_ended source = length source == 0 || ends_with nat_eq source (10 ∷ [])
+
+-- how many lines a source has: those that are ended, and what follows the last of them
+abbrev pub line_count : List ℕ → ℕ
+line_count source = if is_ended source then ends_in source else ends_in source + 1
+
+-- The text ends by saying that the source is correct.
+pub record EndsAsCorrect (source : List ℕ) (text : Text) : Type 0 where
+  pub listing : Text
+  pub told : text ≡ listing ++ (codes "correct, " ++ (decimal (line_count source) ++ (codes " lines" ++ 10 ∷ [])))
+
+-- The text ends with the reason for which a source is refused, if one is told.
+pub record EndsWithReason (path : Text) (source : List ℕ) (fault : CompileFault) (text : Text) : Type 0 where
+  pub listing : Text
+  pub reason : Text
+  pub is_reason : (reason ≡ []) ⊎ IsReason path source fault reason
+  pub told : text ≡ listing ++ reason
+
+-- The bytes are a source that is compiled.
+pub record IsCorrect (bytes : List ℕ) : Type 0 where
+  pub is_source : begins_as_module bytes ≡ false
+  pub file : List ℕ
+  pub compiled : IsCompiled bytes file
+
+-- The bytes are such a source, and this text explains it.
+pub record IsSourceExplained (bytes : List ℕ) (text : Text) : Type 0 where
+  pub correct : IsCorrect bytes
+  pub ends : EndsAsCorrect bytes text
+
+-- The bytes are a source that is refused for this fault, and this text explains it.
+pub record IsSourceRefusal (path : Text) (bytes : List ℕ) (fault : CompileFault) (text : Text) : Type 0 where
+  pub is_source : begins_as_module bytes ≡ false
+  pub refused_for : IsRefusedFor bytes fault
+  pub ends : EndsWithReason path bytes fault text
+
+-- The bytes in the file of this path are refused for this reason, and this text explains it.
+abbrev pub ExplainsBytes : Text → List ℕ → RefusedFor → Text → Type 0
+ExplainsBytes path bytes (refused.Malformed fault) text = IsFaultExplained bytes fault text
+ExplainsBytes path bytes (refused.Uncertified refusal) text = IsRefusalExplained bytes refusal text
+ExplainsBytes path bytes (refused.Uncompiled fault) text = IsSourceRefusal path bytes fault text
+
+-- The module is refused for this reason, and this text explains it.
+abbrev pub ExplainsModule : Contents → RefusedFor → Text → Type 0
+ExplainsModule m (refused.Malformed fault) text = ⊥
+ExplainsModule m (refused.Uncertified refusal) text = ExplainsRefusal m refusal text
+ExplainsModule m (refused.Uncompiled fault) text = ⊥
+
+-- This text explains the fault of a file, and an explanation is asked for.
+abbrev pub ExplainsFault : List ℕ → Question → FormatFault → RefusedFor → Text → Type 0
+ExplainsFault bytes questions.Explanation fault (refused.Malformed told) text =
+    (told ≡ fault) × (text ≡ malformed_text bytes fault)
+ExplainsFault bytes question fault refusal text = ⊥
+
+-- Nothing is reported about the module in these bytes, since they are no module file for this fault.
+abbrev pub IsUnread : List ℕ → Question → FormatFault → Failure → Type 0
+IsUnread bytes question fault (failures.Malformed told) = told ≡ fault
+IsUnread bytes question fault (failures.Explained refusal text) =
+    ExplainsFault bytes question fault refusal (string_bytes text)
+IsUnread bytes question fault failure = ⊥
+
 -- memory ran out for the verdict
 abbrev pub starved : Failure
 starved = failures.Uncertified out_of_memory
@@ -38,7 +126,7 @@ starved = failures.Uncertified out_of_memory
 abbrev pub WithholdsExplanation : Contents → Failure → Type 0
 WithholdsExplanation m (failures.Malformed fault) = ⊥
 WithholdsExplanation m (failures.Uncertified refusal) = refusal ≡ out_of_memory
-WithholdsExplanation m (failures.Explained refusal text) = ExplainsRefusal m refusal (string_bytes text)
+WithholdsExplanation m (failures.Explained refusal text) = ExplainsModule m refusal (string_bytes text)
 WithholdsExplanation m (failures.Faulted fault text) = ⊥
 WithholdsExplanation m (failures.Uncompiled fault) = ⊥
 WithholdsExplanation m (failures.NotUpgraded fault) = ⊥
@@ -48,3 +136,16 @@ WithholdsExplanation m (failures.ReadFailed link) = ⊥
 WithholdsExplanation m (failures.WriteFailed link) = ⊥
 WithholdsExplanation m failures.Unwritten = ⊥
 WithholdsExplanation m failures.Memory = ⊤
+
+-- This text explains why a source is refused.
+abbrev pub ExplainsSource : Text → List ℕ → RefusedFor → Text → Type 0
+ExplainsSource path bytes (refused.Malformed fault) text = ⊥
+ExplainsSource path bytes (refused.Uncertified refusal) text = ⊥
+ExplainsSource path bytes (refused.Uncompiled fault) text = IsSourceRefusal path bytes fault text
+
+-- why the text of an explanation is not all that is left of a source: it is refused, or memory ran out
+abbrev pub WithholdsSource : Text → List ℕ → Failure → Type 0
+WithholdsSource path bytes (failures.Explained refusal text) = ExplainsSource path bytes refusal (string_bytes text)
+WithholdsSource path bytes (failures.Uncompiled why) = (begins_as_module bytes ≡ false) × IsRefusedAs path bytes why
+WithholdsSource path bytes failures.Memory = IsCorrect bytes
+WithholdsSource path bytes failure = ⊥

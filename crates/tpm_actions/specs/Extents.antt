@@ -9,7 +9,7 @@ use Rattle.module_format.specs.declared.fault.TheConstants.{MAGIC}
 use Rattle.module_format.specs.Spelling.{magic_one, magic_two}
 use Rattle.compiler.specs.declared.source.CompileFault.TheVariants.{Layout}
 use Rattle.compiler.specs.Compiled.{IsRefusedFor}
-use Rattle.command_line.specs.Asked.{Asked, compiles, debugs}
+use Rattle.command_line.specs.Asked.{Asked, compiles, debugs, explains}
 use Rattle.tpm_actions.specs.declared.extent.Extent.{Extent}
 use Rattle.tpm_actions.specs.declared.extent.Extent.TheVariants.{Source, Module, Either}
 use Rattle.tpm_actions.specs.declared.extent.TheConstants.{MAGIC_BYTES}
@@ -19,6 +19,7 @@ use Rattle.tpm_actions.specs.Malformed.{IsMalformed}
 abbrev pub extent_of : Asked → Extent
 extent_of (compiles source out) = Source
 extent_of (debugs path inputs outputs bytes trace) = Either
+extent_of (explains path) = Either
 extent_of _ = Module
 
 -- a module file of some version begins so

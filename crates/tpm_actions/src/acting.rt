@@ -1,11 +1,11 @@
 //! The whole program over files and streams that it is handed.
 
-ghost use Rattle.std.specs.Prelude.{◌≡◌, ℕ, List, MatchResult, string_bytes, option_map};
+ghost use Rattle.std.specs.Prelude.{◌≡◌, ℕ, true, false, List, MatchResult, string_bytes, option_map};
 ghost use Rattle.command_line.specs.Words.{words_of};
 ghost use Rattle.command_line.specs.Links.{paths_of};
 ghost use Rattle.tpm_actions.specs.FilesInOrder.{inside};
 ghost use Rattle.command_line.specs.Asked.{asked_about, asked_of, path_of, runs};
-ghost use Rattle.tpm_actions.specs.Extents.{extent_of};
+ghost use Rattle.tpm_actions.specs.Extents.{begins_as_module, extent_of};
 ghost use Rattle.tpm_actions.specs.Texts.{misuse_status, status_of};
 ghost use Rattle.tpm_actions.specs.Acting.{Acts, Answers, HasRun, IsAccepted, IsTold, IsHindered, Performs, Tells};
 ghost use Rattle.tpm_actions.specs.Acting.{TellsOf, WithholdsOf, WithholdsVerdict};
@@ -13,8 +13,8 @@ ghost use Rattle.tpm_actions.specs.Streams.{has_stream, is_stream_given, sends_o
 
 use crate::compiling::compile_to_file;
 use crate::debugging::Debugging;
-use crate::explaining::explain;
-use crate::extent::Extent;
+use crate::explaining::{explain, explain_source, malformed};
+use crate::extent::{Extent, begins_as_module};
 use crate::files::{FileFault, Files};
 use crate::programs::debug_program;
 use crate::report::{DONE, Failure, MISUSED, Report, STARVED};
@@ -86,6 +86,43 @@ fn reply<'a, F: Files>(
     }
 }
 
+/// Whether it is a source of which an explanation is asked.
+fn is_source_explained(bytes: &[u8], question: Question<'_>) -> bool
+    ensures { result ≡ true
+        → (question.entry ≡ Question.Explanation) × (begins_as_module bytes.now ≡ false) }
+{
+    match question {
+        Question::Explanation => !begins_as_module(bytes),
+        Question::Verdict | Question::Run { .. } | Question::Listing => false,
+    }
+}
+
+/// The report on a module, or the explanation of a source, in a file of this path.
+fn ask<'a, F: Files>(
+    alloc: Global,
+    path: &str,
+    bytes: &[u8],
+    question: Question<'a>,
+    files: &mut F,
+) -> Result<String, Failure<'a>>
+    ensures { let asked = asked_about path.now question.entry in
+        MatchResult result
+        (λ text. IsTold F.opens F.creates F.closes (inside F.Reader.left) (inside F.Reader.failed)
+        (inside F.Writer.written) (inside F.Writer.failed)
+        bytes.now asked files.old files.new (string_bytes text))
+        (IsHindered F.opens F.creates F.closes (inside F.Reader.left) (inside F.Reader.failed)
+        (inside F.Writer.written) (inside F.Writer.failed)
+        bytes.now asked files.old files.new) }
+{
+    if is_source_explained(bytes, question) {
+        return explain_source(alloc, path, bytes);
+    }
+    match Module::read(alloc, bytes) {
+        Ok(module) => reply(alloc, &module, question, files),
+        Err(fault) => Err(malformed(alloc, bytes, question, fault)),
+    }
+}
+
 /// The report on the source or the module in these bytes, as text. A run that is traced is traced to the last one.
 fn judge<'a, F: Files, T: Write + Drop>(
     alloc: Global,
@@ -126,10 +163,7 @@ fn judge<'a, F: Files, T: Write + Drop>(
                 files,
             )
         }
-        Line::Ask { question, .. } => {
-            let module = Module::read(alloc, bytes)?;
-            reply(alloc, &module, question, files)
-        }
+        Line::Ask { path, question } => ask(alloc, path, bytes, question, files),
     }
 }
 
@@ -149,7 +183,11 @@ fn read_extent(line: Line) -> Extent
 {
     match line {
         Line::Compile { .. } => Extent::Source,
-        Line::Debug { .. } => Extent::Either,
+        Line::Debug { .. }
+        | Line::Ask {
+            question: Question::Explanation,
+            ..
+        } => Extent::Either,
         Line::Upgrade { .. } | Line::Ask { .. } => Extent::Module,
     }
 }

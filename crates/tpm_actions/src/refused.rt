@@ -1,15 +1,22 @@
 //! A source that becomes no module, and what is written of it.
 
-ghost use Rattle.std.specs.Prelude.{IfOk, IfSome, string_bytes};
+ghost use Rattle.std.specs.Prelude.{◌≡◌, IfOk, IfSome, string_bytes};
+ghost use Rattle.limit_reasons.specs.LimitTexts.{IsLimitText};
 ghost use Rattle.compiler.specs.Compiled.{IsRefusedFor};
-ghost use Rattle.tpm_actions.specs.Compiling.{IsParseReason, IsReason, IsRefusedAs};
+ghost use Rattle.tpm_actions.specs.Compiling.{IsGenerationReason, IsLimitReason, IsParseReason, IsReason, IsRefusedAs, IsUsageReason};
+ghost use Rattle.tpm_actions.specs.Compiling.{mistake_text, IsSomeReasonOf, IsUsageText};
 
 use compiler::CompileFault;
-use occam_layout::lines;
-use occam_parser::ParseFault;
-use reason_texts::{layout_text, parse_text};
+use limit_reasons::{limit_excess, limit_text};
+use module_builder::GenFault;
+use occam_layout::{Line, lines};
+use occam_parser::{ParseFault, Program, parse};
+use reason_texts::{layout_text, line_of, parse_text};
 use std::alloc::{AllocError, Global};
 use std::fmt;
+use usage_checks::UsageFault;
+use usage_reasons::{Reason, usage_reason};
+use usage_texts::usage_text;
 
 /// Why a source becomes no module.
 #[derive(Drop)]
@@ -51,8 +58,113 @@ fn parse_reason_text(
     }
 }
 
+/// Why a program with these lines breaks a rule of usage. A program without items has no line at fault.
+fn reason_on<'a>(
+    alloc: Global,
+    lines: &[Line<'a>],
+    program: &Program<'a>,
+    fault: UsageFault,
+) -> Result<Option<Reason<'a>>, AllocError>
+    ensures { IfOk result (λ found. IfSome found (IsSomeReasonOf fault)) }
+{
+    match line_of(fault.line, lines) {
+        Some(line) => usage_reason(alloc, &line.tokens, program, fault),
+        None => usage_reason(alloc, &[], program, fault),
+    }
+}
+
+/// What is written of the lines of a program that breaks a rule of usage.
+fn usage_text_of_lines(
+    alloc: Global,
+    path: &str,
+    source: &[u8],
+    lines: &[Line<'_>],
+    fault: UsageFault,
+) -> Result<Option<String>, AllocError>
+    ensures { IfOk result (λ found.
+        IfSome found (λ text. IsUsageText path.now source.now lines.now fault (string_bytes text))) }
+{
+    let Ok(program) = parse(alloc, lines) else {
+        return Ok(None);
+    };
+    match reason_on(alloc, lines, &program, fault)? {
+        Some(reason) => usage_text(alloc, path, source, lines, &reason, fault.number),
+        None => Ok(None),
+    }
+}
+
+/// What is written of a program that breaks a rule of usage. Where memory runs out for the lines, there is nothing.
+fn usage_reason_text(
+    alloc: Global,
+    path: &str,
+    source: &[u8],
+    fault: UsageFault,
+) -> Result<Option<String>, AllocError>
+    ensures { IfOk result (λ found.
+        IfSome found (λ text. IsUsageReason path.now source.now fault (string_bytes text))) }
+{
+    match lines(alloc, source) {
+        Ok(lines) => usage_text_of_lines(alloc, path, source, &lines, fault),
+        Err(_) => Ok(None),
+    }
+}
+
+/// What is written of the lines of a program that is above a limit.
+fn limit_text_of_lines(
+    alloc: Global,
+    path: &str,
+    source: &[u8],
+    lines: &[Line<'_>],
+) -> Result<Option<String>, AllocError>
+    ensures { IfOk result (λ found. IfSome found (λ text. IsLimitText path.now source.now lines.now (string_bytes text))) }
+{
+    let Ok(program) = parse(alloc, lines) else {
+        return Ok(None);
+    };
+    let excess = limit_excess(alloc, program.items())?;
+    let text = limit_text(alloc, path, source, lines, excess)?;
+    Ok(Some(text))
+}
+
+/// What is written of a program that is above a limit. Where memory runs out for the lines, there is nothing.
+fn limit_reason_text(alloc: Global, path: &str, source: &[u8]) -> Result<Option<String>, AllocError>
+    ensures { IfOk result (λ found. IfSome found (λ text. IsLimitReason path.now source.now (string_bytes text))) }
+{
+    match lines(alloc, source) {
+        Ok(lines) => limit_text_of_lines(alloc, path, source, &lines),
+        Err(_) => Ok(None),
+    }
+}
+
+/// What is written of a program that becomes no module, since the verifier would refuse it.
+fn mistake_text(alloc: Global, path: &str) -> Result<Option<String>, AllocError>
+    ensures { IfOk result (λ found. IfSome found (λ text. string_bytes text ≡ mistake_text path.now)) }
+{
+    let text = format!(in alloc;
+        "{path}: this is a mistake of the compiler; please report the source (G3)\n"
+    )?;
+    Ok(Some(text))
+}
+
+/// What is written of a program that becomes no module.
+fn generation_reason_text(
+    alloc: Global,
+    path: &str,
+    source: &[u8],
+    fault: GenFault,
+) -> Result<Option<String>, AllocError>
+    ensures { IfOk result (λ found.
+        IfSome found (λ text. IsGenerationReason path.now source.now fault (string_bytes text))) }
+{
+    match fault {
+        GenFault::Limit => limit_reason_text(alloc, path, source),
+        GenFault::Invalid => mistake_text(alloc, path),
+        GenFault::Memory => Ok(None),
+    }
+}
+
 /// What is written of a source that is refused for this fault. The path is that of the source.
-fn reason_text(
+pub(crate) fn reason_text(
     alloc: Global,
     path: &str,
     source: &[u8],
@@ -63,7 +175,8 @@ fn reason_text(
     match fault {
         CompileFault::Layout(fault) => layout_text(alloc, path, source, fault),
         CompileFault::Syntax(fault) => parse_reason_text(alloc, path, source, fault),
-        CompileFault::Usage(_) | CompileFault::Generation(_) => Ok(None),
+        CompileFault::Usage(fault) => usage_reason_text(alloc, path, source, fault),
+        CompileFault::Generation(fault) => generation_reason_text(alloc, path, source, fault),
     }
 }
 

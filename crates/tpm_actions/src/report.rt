@@ -56,6 +56,29 @@ impl fmt::Display for Report {
     }
 }
 
+/// Why the file is refused that is explained.
+#[derive(Clone, Copy, Debug)]
+pub enum RefusedFor {
+    /// It is no module file.
+    Malformed(FormatFault),
+    /// Its module is not certified.
+    Uncertified(Refusal),
+    /// It is a source that becomes no module.
+    Uncompiled(CompileFault),
+}
+
+impl fmt::Display for RefusedFor {
+    fn fmt<W: fmt::Write>(&self, f: &mut fmt::Formatter<W>) -> fmt::Result {
+        match self {
+            RefusedFor::Malformed(fault) => write!(f, "C{} at {}", fault.number, fault.offset),
+            RefusedFor::Uncertified(refusal) => {
+                write!(f, "V{} at {}", refusal.number, refusal.offset)
+            }
+            RefusedFor::Uncompiled(fault) => write!(f, "{fault}"),
+        }
+    }
+}
+
 /// Why nothing is reported about a module or a source.
 #[derive(Debug, Drop, Error)]
 pub enum Failure<'a> {
@@ -65,9 +88,9 @@ pub enum Failure<'a> {
     /// The module is not certified.
     #[error("refused V{} at {}", .0.number, .0.offset)]
     Uncertified(Refusal),
-    /// The module is not certified, and this text explains why.
-    #[error("refused V{} at {}", .refusal.number, .refusal.offset)]
-    Explained { refusal: Refusal, text: String },
+    /// The file is refused, and this text explains why.
+    #[error("refused {refusal}")]
+    Explained { refusal: RefusedFor, text: String },
     /// A process of the run is at fault, and this text says how far the run came.
     #[error("{fault}")]
     Faulted { fault: FaultText, text: String },

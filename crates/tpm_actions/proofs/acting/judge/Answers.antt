@@ -2,7 +2,7 @@ use Rattle.std.proofs.Common.{string_bytes}
 use Rattle.tpm_actions.specs.FilesInOrder.{inside}
 use Rattle.std.proofs.Common.{option_map}
 use Rattle.command_line.specs.Links.{paths_of}
-use Rattle.tpm_actions.proofs.Judged.{module_judged, upgrade_judged, program_judged, replied}
+use Rattle.tpm_actions.proofs.Judged.{module_judged, upgrade_judged, program_judged}
 use Rattle.tpm_actions.proofs.acting.judge.Goals as goal
 
 pub returns-in-Compile : goal.returns-in-Compile
@@ -26,11 +26,3 @@ returns-in-Debug g c =
     (inside g.F.Writer.LinkWriter.failed) string_bytes c.args.bytes.now c.in-Debug.path.now
     (paths_of c.in-Debug.inputs) (paths_of c.in-Debug.outputs) (option_map (λ text. text.now) c.in-Debug.limit)
     c.in-Debug.is_traced _ _ c.debug_program.result c.debug_program.ensures)
-
-pub returns-in_ok-module-in-Ask : goal.returns-in_ok-module-in-Ask
-returns-in_ok-module-in-Ask g c =
-    rw c.in-Ask.is (replied g.F.Files.opens g.F.Files.creates g.F.Files.closes (inside g.F.Reader.LinkReader.left)
-    (inside g.F.Reader.LinkReader.failed) (inside g.F.Writer.LinkWriter.written)
-    (inside g.F.Writer.LinkWriter.failed) c.args.bytes.now c.in_ok-module-in-Ask.module
-    c.in_ok-module-in-Ask.ensures.found c.in-Ask.path.now _ _ string_bytes c.in-Ask.question c.reply.result
-    (c.reply.ensures c.in-Ask.path.now))

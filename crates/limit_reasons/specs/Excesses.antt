@@ -1,0 +1,12 @@
+-- What is above a limit of what is made of a program: our own choice (docs/COMPILER.md, Limits).
+use Rattle.std.specs.Prelude.{ℕ}
+use Rattle.limit_reasons.specs.declared.excess.Limit.{Limit}
+use Rattle.limit_reasons.specs.declared.excess.Limit.TheVariants as limits
+
+-- the most that is possible
+abbrev pub most_of : Limit → ℕ
+most_of limits.Components = 64
+most_of limits.Guards = 64
+most_of limits.Turns = 8191
+most_of limits.Words = 16378
+most_of limits.Items = 4096

@@ -1,0 +1,2 @@
+pub mod Excesses
+pub mod LimitTexts

@@ -1,0 +1,55 @@
+//! What is above a limit.
+
+ghost use Rattle.std.specs.Prelude.{◌≡◌, ◌<◌};
+ghost use Rattle.limit_reasons.specs.Excesses.{most_of};
+
+/// A limit of what is made of a program: one that its source alone shows to be exceeded.
+#[derive(Clone, Copy)]
+pub enum Limit {
+    /// The components of a `PAR`.
+    Components,
+    /// The guards of an `ALT`.
+    Guards,
+    /// The turns of a replicated `IF`: each has a row.
+    Turns,
+    /// The words of the variables and channels that a procedure declares at once.
+    Words,
+    /// The items of the tables and the characters of the texts of a program.
+    Items,
+}
+
+impl Limit {
+    /// The most that is possible, as `COMPILER.md` has it.
+    pub fn most(self) -> u64
+        ensures { result ≡ most_of self }
+    {
+        match self {
+            Limit::Components | Limit::Guards => 64,
+            Limit::Turns => 8_191,
+            Limit::Words => 16_378,
+            Limit::Items => 4_096,
+        }
+    }
+}
+
+/// What is above a limit, and on which line.
+#[derive(Clone, Copy)]
+pub struct Excess {
+    pub line: u32,
+    pub limit: Limit,
+    /// How many there are, on this line or up to it.
+    pub count: u64,
+    /// More than are possible.
+    pub ghost above: { most_of limit < count },
+}
+
+impl Excess {
+    /// This many on a line, if they are more than are possible.
+    pub(crate) fn of(line: u32, limit: Limit, count: u64) -> Option<Excess> {
+        if count > limit.most() {
+            Some(Excess { line, limit, count })
+        } else {
+            None
+        }
+    }
+}

@@ -1,0 +1,88 @@
+//! What is written of a limit that is exceeded.
+
+ghost use Rattle.std.specs.Prelude.{◌≡◌, ◌++◌, ◌<◌, ◌^◌, OnOk, IfOk, string_bytes};
+ghost use Rattle.limit_reasons.specs.LimitTexts.{excess_text, large_text, limit_text, limit_words};
+
+use crate::excess::{Excess, Limit};
+use occam_layout::Line;
+use reason_texts::{Span, line_of, line_span, push_block, push_place};
+use source_reasons::find_line;
+use std::alloc::{AllocError, Global};
+
+/// Appends what there is too much of, how much, and how much is possible.
+fn push_limit(text: &mut String, limit: Limit, count: u64) -> Result<(), AllocError>
+    ensures { OnOk result (string_bytes text.new ≡ string_bytes text.old ++ limit_words limit count) }
+{
+    match limit {
+        Limit::Components => {
+            write!(
+                text,
+                "this PAR has {count} components; at most 64 are possible"
+            )
+        }
+        Limit::Guards => write!(text, "this ALT has {count} guards; at most 64 are possible"),
+        Limit::Turns => write!(text, "this IF has {count} turns; at most 8191 are possible"),
+        Limit::Words => write!(
+            text,
+            "the variables up to here take {count} words; 16378 are possible"
+        ),
+        Limit::Items => write!(
+            text,
+            "the tables and texts up to here have {count} items; 4096 are possible"
+        ),
+    }
+}
+
+/// Appends where a limit is exceeded, which one, and the line.
+#[tactic(auto, unfolding(crate::specs::LimitTexts::excess_text))]
+fn push_excess(
+    text: &mut String,
+    path: &str,
+    excess: Excess,
+    line: &[u8],
+    span: Span,
+) -> Result<(), AllocError>
+    requires { span.at < 2 ^ 32 }
+    ensures { OnOk result (string_bytes text.new ≡ string_bytes text.old ++ excess_text path.now excess line.now span) }
+{
+    push_place(text, path, excess.line, span.at)?;
+    push_limit(text, excess.limit, excess.count)?;
+    text.push_str(" (G1)\n")?;
+    push_block(text, line, span)?;
+    Ok(())
+}
+
+/// That a program is too large.
+fn large_text(alloc: Global, path: &str) -> Result<String, AllocError>
+    ensures { IfOk result (λ text. string_bytes text ≡ large_text path.now) }
+{
+    format!(in alloc;
+        "{path}: the code of this program would be too large, or take too long to write (G1)\n"
+    )
+}
+
+/// What is written of a program that is above a limit: where, which one, and the line, if its source shows one. The path is
+/// that of the source, and `lines` are its lines.
+pub fn limit_text(
+    alloc: Global,
+    path: &str,
+    source: &[u8],
+    lines: &[Line<'_>],
+    excess: Option<Excess>,
+) -> Result<String, AllocError>
+    ensures { IfOk result (λ text. string_bytes text ≡ limit_text path.now source.now lines.now excess) }
+{
+    let Some(excess) = excess else {
+        return large_text(alloc, path);
+    };
+    let Some(line) = line_of(excess.line, lines) else {
+        return large_text(alloc, path);
+    };
+    let Some(found) = find_line(source, excess.line) else {
+        return large_text(alloc, path);
+    };
+    let mut text = String::new(alloc);
+    let span = line_span(found.offset, &line.tokens);
+    push_excess(&mut text, path, excess, found.bytes, span)?;
+    Ok(text)
+}

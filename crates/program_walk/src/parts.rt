@@ -1,0 +1,29 @@
+//! What a walk comes to.
+
+use occam_parser::{Action, Construct, Declaration, Expr, Guard, Item, Replicator};
+use scalar_ranges::Scope;
+
+/// A part of a program, which stands on one line or begins there.
+#[derive(Clone, Copy)]
+pub enum Part<'p, 'a> {
+    /// A constant of the program, or the head of a procedure.
+    Item(&'p Item<'a>),
+    /// Names that are declared before a process.
+    Declaration(&'p Declaration<'a>),
+    /// A `SEQ`, a `PAR`, an `IF` or an `ALT`, with what is in it.
+    Construct(&'p Construct<'a>),
+    /// The name, the base and the count of a replicator.
+    Replicator(&'p Replicator<'a>),
+    /// An action.
+    Action(&'p Action<'a>),
+    /// The condition of a choice.
+    Condition(&'p Expr<'a>),
+    /// The guard of a branch.
+    Guard(&'p Guard<'a>),
+}
+
+/// Whoever looks at the parts of a program.
+pub trait Visitor {
+    /// A part on this line, with what is known before it.
+    fn visit(&mut self, scope: &Scope<'_>, line: u32, part: Part<'_, '_>);
+}

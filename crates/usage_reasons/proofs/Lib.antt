@@ -1,0 +1,3 @@
+pub mod ChainWidth
+pub mod Places
+pub mod Causes

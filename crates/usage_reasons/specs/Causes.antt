@@ -1,0 +1,84 @@
+-- Why tokens break a rule, by what a scope knows.
+use Rattle.std.specs.Prelude.{◌≡◌, ℕ, ◌+◌, false, List, [], ◌∷◌, ◌++◌, length, Option, Some, None, Ok, Err}
+use Rattle.std.specs.Borrow.{Bor}
+use Rattle.word_arithmetic.specs.Range.{ends_of, is_within}
+use Rattle.word_arithmetic.specs.declared.ranges.Range.{Range}
+use Rattle.occam_parser.specs.declared.tree.ValueType.{ValueType}
+use Rattle.occam_parser.specs.declared.tree.PairOperator.{PairOperator}
+use Rattle.occam_parser.specs.declared.tree.ArithmeticPair.{ArithmeticPair}
+use Rattle.occam_parser.specs.Terminals.{Terminal, Name}
+use Rattle.occam_parser.specs.Expressions.{Expression, Alone, Prefixed, Paired, Chained, Terms, Two, Then, Term}
+use Rattle.occam_parser.specs.Expressions.{Element, Converted, written, written_term}
+use Rattle.scalar_ranges.specs.declared.types.ExprType.{ExprType}
+use Rattle.scalar_ranges.specs.declared.types.ExprType.TheVariants as types
+use Rattle.scalar_ranges.specs.declared.bounds.TheConstants.{OUT_OF_RANGE}
+use Rattle.scalar_ranges.specs.Entries.{Meaning, Entry, meaning_in, type_range}
+use Rattle.scalar_ranges.specs.Types.{type_of, type_of_term}
+use Rattle.scalar_ranges.specs.Bounds.{bound_of, bound_of_term, range_found, is_subscript}
+use Rattle.program_uses.specs.Constants.{is_same_type}
+use Rattle.usage_reasons.specs.declared.reason.Why.{Why}
+use Rattle.usage_reasons.specs.declared.reason.Why.TheVariants as why
+use Rattle.usage_reasons.specs.declared.reason.Sort.{Sort}
+use Rattle.usage_reasons.specs.declared.reason.Operator.{Operator}
+use Rattle.usage_reasons.specs.declared.reason.Results.{Results}
+use Rattle.usage_reasons.specs.declared.cause.Cause.{Cause}
+use Rattle.usage_reasons.specs.Sorts.{is_of_sort, is_constant, elements_in}
+use Rattle.usage_reasons.specs.Tokens.{capped}
+
+-- where the two operands of a chain lie; of a longer chain nothing is said here
+abbrev pub AreJoined : List Entry → Terms → Range → Range → Type 0
+AreJoined es (Two a b) left right =
+    (range_found (bound_of_term es a) ≡ Ok (ends_of left)) × (range_found (bound_of_term es b) ≡ Ok (ends_of right))
+AreJoined es (Then ts t) left right = Unit {0}
+
+-- where the operands of an expression lie
+abbrev pub AreOperands : List Entry → Expression → Range → Range → Type 0
+AreOperands es (Alone t) left right = ⊥
+AreOperands es (Prefixed op t) left right = range_found (bound_of_term es t) ≡ Ok (ends_of right)
+AreOperands es (Paired op a b) left right =
+    (range_found (bound_of_term es a) ≡ Ok (ends_of left)) × (range_found (bound_of_term es b) ≡ Ok (ends_of right))
+AreOperands es (Chained op ts) left right = AreJoined es ts left right
+
+-- an operator that may fail, by where its operands lie
+pub record Fails (es : List Entry) (e : Expression) (left right : Range) : Type 0 where
+  pub operands : AreOperands es e left right
+  pub result : range_found (bound_of es e) ≡ Err OUT_OF_RANGE
+
+-- These tokens break a rule for this reason.
+pub data Breaks (es : List Entry) : List Terminal → Why → Type 0 where
+  unknown : (name : List ℕ) (nearest : Option (Bor (List ℕ))) → meaning_in name es ≡ None
+      → Breaks es (Name name ∷ []) (why.UnknownName nearest)
+  other_sort : (name : List ℕ) (m : Meaning) (wanted : Sort) → meaning_in name es ≡ Some m
+      → is_of_sort wanted m ≡ false → Breaks es (Name name ∷ []) (why.OtherSort wanted)
+  other_type : (e : Expression) (found wanted : ExprType) → type_of es e ≡ Ok found
+      → is_same_type found wanted ≡ false → Breaks es (written e) (why.OtherType found wanted)
+  no_number : (e : Expression) → type_of es e ≡ Ok types.Condition → Breaks es (written e) why.NoNumber
+  other_types : (op : PairOperator) (a b : Term) (left right : ExprType) → type_of_term es a ≡ Ok left
+      → type_of_term es b ≡ Ok right → is_same_type left right ≡ false
+      → Breaks es (written (Paired op a b)) (why.OtherTypes left right)
+  no_constant : (name : List ℕ) (m : Meaning) → meaning_in name es ≡ Some m → is_constant m ≡ false
+      → Breaks es (Name name ∷ []) why.NoConstant
+  no_constant_element : (name : List ℕ) (e : Expression) → Breaks es (written_term (Element name e)) why.NoConstant
+  overflow : (e : Expression) (op : Operator) (left right : Range) (results : Results) → Fails es e left right
+      → Breaks es (written e) (why.Overflow op left right results)
+  division : (e : Expression) (op : ArithmeticPair) (left right : Range) → Fails es e left right
+      → Breaks es (written e) (why.Division op left right)
+  shift : (e : Expression) (left right : Range) → Fails es e left right
+      → Breaks es (written e) (why.ShiftCount right)
+  conversion : (to : ValueType) (t : Term) (operand : Range) → range_found (bound_of_term es t) ≡ Ok (ends_of operand)
+      → is_within (ends_of operand) (type_range to) ≡ false
+      → Breaks es (written_term (Converted to t)) (why.Conversion to operand)
+  outside : (name : List ℕ) (e : Expression) (m : Meaning) (size : ℕ) (subscript : Range)
+      → meaning_in name es ≡ Some m → elements_in m ≡ Some size
+      → range_found (bound_of es e) ≡ Ok (ends_of subscript) → is_subscript size (ends_of subscript) ≡ false
+      → Breaks es (written e) (why.Outside size subscript)
+
+-- The tokens of a cause are some of a line's that begins at a place, and break a rule for its reason.
+pub record IsCause (es : List Entry) (line : List Terminal) (at : ℕ) (cause : Cause) : Type 0 where
+  pub before : List Terminal
+  pub part : List Terminal
+  pub after : List Terminal
+  pub whole : line ≡ before ++ (part ++ after)
+  pub place : cause.tokens.at ≡ capped (at + length before)
+  pub count : cause.tokens.len ≡ capped (length part)
+  pub broken : Breaks es part cause.why

@@ -1,0 +1,6 @@
+pub mod Tokens
+pub mod Sorts
+pub mod Numbers
+pub mod Chains
+pub mod Causes
+pub mod Reasons

@@ -1,0 +1,46 @@
+//! Names that are spelled nearly alike.
+
+ghost use Rattle.std.specs.Prelude.{◌≤◌, length};
+
+use scalar_ranges::Scope;
+
+/// How many bytes are the same in two names, from the first ones on.
+fn common_front(first: &[u8], second: &[u8]) -> usize
+    ensures in_first { result ≤ length first.now }
+    ensures in_second { result ≤ length second.now }
+{
+    let len = first.len().min(second.len());
+    for at in 0..len {
+        if first[at] != second[at] {
+            return at;
+        }
+    }
+    len
+}
+
+/// Whether a name is another one with one byte changed, left out or put in.
+fn is_near(first: &[u8], second: &[u8]) -> bool {
+    let front = common_front(first, second);
+    let (rest, other) = (&first[front..], &second[front..]);
+    match (rest.split_first(), other.split_first()) {
+        (None, None) => true,
+        (Some((_, rest)), None) => rest.is_empty(),
+        (None, Some((_, other))) => other.is_empty(),
+        (Some((_, after)), Some((_, other_after))) => {
+            after == other_after || after == other || rest == other_after
+        }
+    }
+}
+
+/// The innermost name in scope that is spelled nearly as this one, which has more than one byte.
+pub(crate) fn nearest<'a>(scope: &Scope<'a>, name: &[u8]) -> Option<&'a [u8]> {
+    let mut found = None;
+    for number in 0..scope.len() {
+        if let Some(entry) = scope.entry(number) {
+            if is_near(entry.name, name) && name.len() > 1 {
+                found = Some(entry.name);
+            }
+        }
+    }
+    found
+}

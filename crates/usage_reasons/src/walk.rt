@@ -1,0 +1,122 @@
+//! The walk over a program once more, as far as the line at fault.
+
+ghost use Rattle.std.specs.Prelude.{◌≡◌, true, IfOk, IfSome};
+ghost use Rattle.usage_reasons.specs.Reasons.{IsReasonOf};
+
+use crate::reason::{KnownName, Reason, Tokens};
+use occam_layout::Token;
+use program_uses::{Signature, UsageFault};
+use scalar_ranges::{Entry, Meaning, Scope};
+use std::alloc::{AllocError, Global};
+use usage_checks::Position;
+
+/// Whether a reason is of this fault, and its tokens are among this many.
+fn is_reason_of(count: usize, fault: UsageFault, reason: &Reason) -> bool
+    ensures { result ≡ true → IsReasonOf count fault reason.now }
+{
+    let Tokens { at, len } = reason.tokens;
+    let is_of = reason.line == fault.line && reason.why.number() == fault.number;
+    is_of && at <= count && len <= count - at
+}
+
+/// A reason, if it is of this fault, and its tokens are among this many.
+fn tested<'a>(count: usize, fault: UsageFault, reason: Option<Reason<'a>>) -> Option<Reason<'a>>
+    ensures { IfSome result (IsReasonOf count fault) }
+{
+    let reason = reason?;
+    if is_reason_of(count, fault, &reason) {
+        Some(reason)
+    } else {
+        None
+    }
+}
+
+/// What is known at a place of a program, on the way to the line at fault.
+#[derive(Drop)]
+pub(crate) struct Walk<'l, 'a> {
+    pub(crate) alloc: Global,
+    pub(crate) fault: UsageFault,
+    /// The tokens of the line at fault.
+    pub(crate) tokens: &'l [Token<'a>],
+    pub(crate) scope: Scope<'a>,
+    /// The line of each declaration in the scope, by its number.
+    pub(crate) lines: Vec<u32>,
+    pub(crate) signatures: Vec<Signature>,
+    pub(crate) position: Position,
+    /// Whether a block around is gone over once for each index.
+    pub(crate) is_repeated: bool,
+    pub(crate) reason: Option<Reason<'a>>,
+    /// Whether memory was enough.
+    pub(crate) complete: bool,
+}
+
+impl<'l, 'a> Walk<'l, 'a> {
+    /// Before a program, on the way to this fault, whose line has these tokens.
+    pub(crate) fn new(alloc: Global, tokens: &'l [Token<'a>], fault: UsageFault) -> Walk<'l, 'a> {
+        Walk {
+            alloc,
+            fault,
+            tokens,
+            scope: Scope::new(alloc),
+            lines: Vec::new(alloc),
+            signatures: Vec::new(alloc),
+            position: Position {
+                formals: 0,
+                declared: 0,
+                parallel: 0,
+                is_main: false,
+            },
+            is_repeated: false,
+            reason: None,
+            complete: true,
+        }
+    }
+
+    /// The reason that was found, if memory was enough: one of this fault, on a line with this many tokens.
+    pub(crate) fn finish(
+        self,
+        count: usize,
+        fault: UsageFault,
+    ) -> Result<Option<Reason<'a>>, AllocError>
+        ensures { IfOk result (λ found. IfSome found (IsReasonOf count fault)) }
+    {
+        if self.complete {
+            Ok(tested(count, fault, self.reason))
+        } else {
+            Err(AllocError)
+        }
+    }
+
+    /// Whether nothing after this line is gone over.
+    pub(crate) fn is_over(&self, line: u32) -> bool {
+        self.reason.is_some() || !self.complete || line > self.fault.line
+    }
+
+    /// Whether a rule with this number is broken on this line.
+    pub(crate) fn asks(&self, line: u32, number: u8) -> bool {
+        self.fault.line == line && self.fault.number == number
+    }
+
+    /// The line of a declaration.
+    pub(crate) fn line_of(&self, number: usize) -> u32 {
+        self.lines.get(number).copied().unwrap_or(0)
+    }
+
+    /// One name more in the scope.
+    pub(crate) fn declare(&mut self, line: u32, name: &'a [u8], meaning: Meaning) {
+        self.lines.truncate(self.scope.len());
+        let listed = self.lines.push(line).is_ok();
+        let declared = self.scope.declare(Entry { name, meaning }).is_ok();
+        self.complete = self.complete && listed && declared;
+    }
+
+    /// What is known of a name.
+    pub(crate) fn known(&self, name: &'a [u8]) -> Option<KnownName<'a>> {
+        let found = self.scope.lookup(name)?;
+        Some(KnownName {
+            name,
+            meaning: found.meaning,
+            line: self.line_of(found.number),
+        })
+    }
+}

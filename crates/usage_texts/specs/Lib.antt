@@ -1,0 +1,13 @@
+pub mod Texts
+pub mod Words
+pub mod KnownTexts
+pub mod Views
+pub mod SizeTexts
+pub mod RangeTexts
+pub mod LastItems
+pub mod Sharing
+pub mod Passing
+pub mod Types
+pub mod Sentences
+pub mod Hints
+pub mod UsageTexts
