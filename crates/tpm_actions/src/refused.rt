@@ -85,7 +85,7 @@ fn usage_text_of_lines(
         IfSome found (λ text. IsUsageText path.now source.now lines.now fault (string_bytes text))) }
 {
     let Ok(program) = parse(alloc, lines) else {
-        return Ok(None);
+        return Err(AllocError);
     };
     match reason_on(alloc, lines, &program, fault)? {
         Some(reason) => usage_text(alloc, path, source, lines, &reason, fault.number),
@@ -93,7 +93,7 @@ fn usage_text_of_lines(
     }
 }
 
-/// What is written of a program that breaks a rule of usage. Where memory runs out for the lines, there is nothing.
+/// What is written of a program that breaks a rule of usage. Its lines were read before, so that only memory may run out.
 fn usage_reason_text(
     alloc: Global,
     path: &str,
@@ -105,7 +105,7 @@ fn usage_reason_text(
 {
     match lines(alloc, source) {
         Ok(lines) => usage_text_of_lines(alloc, path, source, &lines, fault),
-        Err(_) => Ok(None),
+        Err(_) => Err(AllocError),
     }
 }
 
@@ -119,20 +119,20 @@ fn limit_text_of_lines(
     ensures { IfOk result (λ found. IfSome found (λ text. IsLimitText path.now source.now lines.now (string_bytes text))) }
 {
     let Ok(program) = parse(alloc, lines) else {
-        return Ok(None);
+        return Err(AllocError);
     };
     let excess = limit_excess(alloc, program.items())?;
     let text = limit_text(alloc, path, source, lines, excess)?;
     Ok(Some(text))
 }
 
-/// What is written of a program that is above a limit. Where memory runs out for the lines, there is nothing.
+/// What is written of a program that is above a limit. Its lines were read before, so that only memory may run out.
 fn limit_reason_text(alloc: Global, path: &str, source: &[u8]) -> Result<Option<String>, AllocError>
     ensures { IfOk result (λ found. IfSome found (λ text. IsLimitReason path.now source.now (string_bytes text))) }
 {
     match lines(alloc, source) {
         Ok(lines) => limit_text_of_lines(alloc, path, source, &lines),
-        Err(_) => Ok(None),
+        Err(_) => Err(AllocError),
     }
 }
 
