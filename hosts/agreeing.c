@@ -133,7 +133,10 @@ int main(int count, char **words) {
     uint8_t number = 0;
     size_t offset = 0;
     uint8_t status = tpm_verify(file, length, &budget, &number, &offset);
-    if (status != TPM_ACCEPTED) return refused(status, number, offset);
+    if (status != TPM_ACCEPTED) {
+        free(file);
+        return refused(status, number, offset);
+    }
     uint64_t runs = strtoull(words[2], NULL, 10), seed = strtoull(words[4], NULL, 10) + 1, executed = 0;
     size_t events = (size_t)strtoull(words[3], NULL, 10);
     for (uint64_t run = 0; run < runs; run++) executed += compare(file, length, events, &seed);

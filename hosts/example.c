@@ -26,7 +26,10 @@ int main(int count, char **words) {
     uint8_t number = 0;
     size_t offset = 0;
     uint8_t status = tpm_verify(bytes, length, &budget, &number, &offset);
-    if (status != TPM_ACCEPTED) return refused(status, number, offset);
+    if (status != TPM_ACCEPTED) {
+        free(bytes);
+        return refused(status, number, offset);
+    }
     printf("accepted, budget %" PRIu64 "\n", budget);
 
     struct list list = {allocated(sizeof *list.events), 0};
@@ -42,10 +45,9 @@ int main(int count, char **words) {
         out = allocated(capacity);
         status = tpm_replay(bytes, length, list.events, list.count, out, capacity, &report, &number, &offset);
     }
-    if (status != TPM_ACCEPTED) return refused(status, number, offset);
-    print(&report, out);
+    if (status == TPM_ACCEPTED) print(&report, out);
     free(out);
     free(list.events);
     free(bytes);
-    return 0;
+    return status == TPM_ACCEPTED ? 0 : refused(status, number, offset);
 }
