@@ -4,6 +4,7 @@ use crate::knowing::push_all_known;
 use occam_layout::Line;
 use occam_parser::Program;
 use program_walk::{Part, Visitor, walk_program};
+use reason_texts::shown_byte;
 use scalar_ranges::Scope;
 use std::alloc::{AllocError, Global};
 
@@ -21,15 +22,6 @@ struct Listing<'s, 'a> {
     last: u32,
     /// Whether memory sufficed.
     complete: bool,
-}
-
-/// A byte of a line as it is shown.
-fn shown(byte: u8) -> char {
-    if byte >= 32 && byte < 127 {
-        char::from(byte)
-    } else {
-        '?'
-    }
 }
 
 /// The first line of a text, and what follows the line feed that ends it.
@@ -53,7 +45,7 @@ impl Listing<'_, '_> {
         let (line, rest) = first_line(self.rest);
         write!(self.text, "{:>5}  ", self.number)?;
         for byte in line {
-            self.text.push(shown(*byte))?;
+            self.text.push(char::from(shown_byte(*byte)))?;
         }
         self.rest = rest;
         self.number = self.number.saturating_add(1);

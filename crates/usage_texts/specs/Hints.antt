@@ -76,23 +76,34 @@ range_hint (why.Outside size subscript) =
 range_hint why.TooLarge = Some (codes "under a replicated PAR, IF or ALT each index is gone over")
 range_hint w = None
 
+-- of a name that is not known, where no other one is nearly the same
+abbrev pub unknown_hint : {X : Type 0} → Option X → Option Text
+unknown_hint None = Some
+    (codes "a name is known below its declaration, and a procedure below its end; the last choice of an IF is TRUE")
+unknown_hint (Some nearest) = None
+
+-- what to write in the place of a line whose names are known
+abbrev pub known_hint : Why → Option Text
+known_hint (why.OtherType found wanted) = type_hint found wanted
+known_hint (why.OtherPlaceType found wanted place) = place_hint found wanted
+known_hint (why.OtherTypes left right) = Some (codes "INT before a BYTE makes it an INT, as INT b")
+known_hint (why.OtherSort wanted) = sort_hint wanted
+known_hint why.TextOfInts = Some (codes "write the items, as [97, 98], or a table of BYTE")
+known_hint why.NoConstant =
+    Some (codes "sizes, counts and subscripts of channels are constants; a loop ends early by an IF in it")
+known_hint (why.NotTaken place parameter found) = parameter_hint parameter
+known_hint (why.SharedVariable variable first first_deed second second_deed) =
+    Some (codes "what one component changes no other one uses; send it on a channel")
+known_hint (why.SharedChannel channel element direction first second) =
+    Some (codes "one component receives from a channel and one sends to it; declare one more channel")
+known_hint why.OutsidePar = Some (codes "a channel is between components of a PAR below its declaration")
+known_hint (why.OtherDirection direction) = Some (codes "main receives from in0 to in3 and sends to out0 to out3")
+known_hint (why.PassedTwice first) = Some (codes "pass a copy, or another one")
+known_hint (why.NoMain last) =
+    Some (codes "the last procedure is main; its parameters are as CHAN OF BYTE in0, up to in3 and out3")
+known_hint w = range_hint w
+
 -- what to write in a line's place
 abbrev pub hint : Why → Option Text
-hint (why.OtherType found wanted) = type_hint found wanted
-hint (why.OtherPlaceType found wanted place) = place_hint found wanted
-hint (why.OtherTypes left right) = Some (codes "INT before a BYTE makes it an INT, as INT b")
-hint (why.OtherSort wanted) = sort_hint wanted
-hint why.TextOfInts = Some (codes "write the items, as [97, 98], or a table of BYTE")
-hint why.NoConstant =
-    Some (codes "sizes, counts and subscripts of channels are constants; a loop ends early by an IF in it")
-hint (why.NotTaken place parameter found) = parameter_hint parameter
-hint (why.SharedVariable variable first first_deed second second_deed) =
-    Some (codes "what one component changes no other one uses; send it on a channel")
-hint (why.SharedChannel channel element direction first second) =
-    Some (codes "one component receives from a channel and one sends to it; declare one more channel")
-hint why.OutsidePar = Some (codes "a channel is between components of a PAR below its declaration")
-hint (why.OtherDirection direction) = Some (codes "main receives from in0 to in3 and sends to out0 to out3")
-hint (why.PassedTwice first) = Some (codes "pass a copy, or another one")
-hint (why.NoMain last) =
-    Some (codes "the last procedure is main; its parameters are as CHAN OF BYTE in0, up to in3 and out3")
-hint w = range_hint w
+hint (why.UnknownName nearest) = unknown_hint nearest
+hint w = known_hint w

@@ -1,7 +1,7 @@
 //! What to write in place of a line that breaks a usage rule.
 
 ghost use Rattle.std.specs.Prelude.{◌≡◌, option_map};
-ghost use Rattle.usage_texts.specs.Hints.{type_hint, place_hint, sort_hint, parameter_hint, wrap_hint, range_hint, hint};
+ghost use Rattle.usage_texts.specs.Hints.{unknown_hint, type_hint, place_hint, sort_hint, parameter_hint, wrap_hint, range_hint, known_hint, hint};
 
 use occam_parser::{ArithmeticChain, ArithmeticPair};
 use scalar_ranges::{ArrayKind, ExprType, Meaning, ScalarKind};
@@ -114,9 +114,21 @@ fn range_hint(why: Why<'_>) -> Option<&'static str>
     }
 }
 
-/// What to write in place of a line.
-pub(crate) fn hint(why: Why<'_>) -> Option<&'static str>
-    ensures { option_map (λ h. h.now) result ≡ hint why.entry }
+/// Of a name that is not known, where no other one is nearly the same.
+fn unknown_hint(nearest: Option<&[u8]>) -> Option<&'static str>
+    ensures { option_map (λ h. h.now) result ≡ unknown_hint nearest.entry }
+{
+    match nearest {
+        None => Some(
+            "a name is known below its declaration, and a procedure below its end; the last choice of an IF is TRUE",
+        ),
+        Some(_) => None,
+    }
+}
+
+/// What to write in place of a line whose names are known.
+fn known_hint(why: Why<'_>) -> Option<&'static str>
+    ensures { option_map (λ h. h.now) result ≡ known_hint why.entry }
 {
     match why {
         Why::OtherType { found, wanted } => type_hint(found, wanted),
@@ -143,5 +155,15 @@ pub(crate) fn hint(why: Why<'_>) -> Option<&'static str>
             "the last procedure is main; its parameters are as CHAN OF BYTE in0, up to in3 and out3",
         ),
         _ => range_hint(why),
+    }
+}
+
+/// What to write in place of a line.
+pub(crate) fn hint(why: Why<'_>) -> Option<&'static str>
+    ensures { option_map (λ h. h.now) result ≡ hint why.entry }
+{
+    match why {
+        Why::UnknownName { nearest } => unknown_hint(nearest),
+        _ => known_hint(why),
     }
 }
