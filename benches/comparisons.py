@@ -35,7 +35,7 @@ def loop_entry(word, base, count, weight):
 
 
 def jumps(test, room, end_of_room=0):
-    """Conditional jumps, each after a test, to the place so many bytes behind the last of them."""
+    """Conditional jumps, each after a test, to the place so many bytes after the last of them."""
     function = FUNCTIONS.index("cj")
     before, pieces, size = code(test), [], 0
     while True:
@@ -177,7 +177,7 @@ def to_entries_behind_writes(words):
 
 def to_new_labels_behind_frame():
     """To 8,000 labels with an entry about all words but the pointer, once a store went through that pointer to any word
-    behind it; four times."""
+    after it; four times."""
     pointer = pointer_to(range(2, FRAME_HI))
 
     def about_all(low, high):
@@ -257,8 +257,8 @@ def to_labels_behind_moves(ends=1_000):
 
 
 def to_labels_behind_many_writes(ends=900, writes=9):
-    """To labels with two entries for each block, over and over: behind a store to any word and some words of each block
-    that are written after it, and then behind a word of each block that is written."""
+    """To labels with two entries for each block, over and over: after a store to any word and some words of each block
+    that are written after it, and then after a word of each block that is written."""
     half = BLOCK // 2
     blocks = [word for word in range(FRAME_LO + BLOCK, FRAME_HI - BLOCK, BLOCK) if abs(word) > BLOCK]
 

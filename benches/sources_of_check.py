@@ -328,7 +328,7 @@ def branches_changing():
 
 
 def of_levels(before=(), behind=(), levels=29):
-    """The same where each level has other lines before the block in it, or behind."""
+    """The same where each level has other lines before the block in it, or after."""
 
     def nest(body):
         for _ in range(levels):
@@ -344,7 +344,7 @@ def branches_of_levels():
 
 
 def branches_of_blocks():
-    """That is in a block of its own, behind the other one."""
+    """That is in a block of its own, after the other one."""
     return of_levels(behind=["PAR", "  other := 1"])
 
 
@@ -392,7 +392,7 @@ def of_all(count, level, levels=29, others=()):
 
 
 def branches_of_deep_blocks():
-    """An assignment in two PARs in each other behind each level."""
+    """An assignment in two PARs in each other after each level."""
     behind = ["PAR", "  PAR", "    other := 1"]
     return of_all(1_000, lambda _, body: ["SEQ", "  PAR", *deeper(body, 2), *deeper(behind)], others=["other"])
 
@@ -411,7 +411,7 @@ def branches_of_choices():
 
 
 def two_nests(count):
-    """A nest, and behind it at each of 28 levels another one with so many variables of its own."""
+    """A nest, and after it at each of 28 levels another one with so many variables of its own."""
     levels = 28
     scalars = spellings(count * (levels + 1))
     groups = [scalars[start : start + count] for start in range(0, len(scalars), count)]
@@ -432,7 +432,7 @@ def nests_in_choices(count, few):
 
 
 def assigned_behind(block, condition, count, few):
-    """A nest, and behind each level a block of two branches of which one assigns to so many of the variables."""
+    """A nest, and after each level a block of two branches of which one assigns to so many of the variables."""
     assigned = ["SEQ", *[f"  {name} := 0" for name in spellings(few)]]
     branches = [f"  {condition}", *deeper(assigned, 2), f"  {condition}", "    SKIP"]
     behind = [f"  {block}", *deeper(branches)]
@@ -449,7 +449,7 @@ def many_choices(few):
 
 
 def many_choices_behind(few):
-    """2,000 variables in a PAR, and behind it 3,000 choices, of which the first changes a few others."""
+    """2,000 variables in a PAR, and after it 3,000 choices, of which the first changes a few others."""
     scalars = spellings(few + 2_000)
     choices = ["  TRUE", f"    {passing('few', scalars[:few])}", *["  TRUE", "    SKIP"] * 3_000]
     nest = ["SEQ", "  PAR", f"    {passing('change', scalars[few:])}", "  IF", *deeper(choices)]
@@ -457,7 +457,7 @@ def many_choices_behind(few):
 
 
 def beside_nest(count, few):
-    """Variables in a PAR, and behind it a few others, in 57 PARs."""
+    """Variables in a PAR, and after it a few others, in 57 PARs."""
     scalars = spellings(count + few)
     inside = ["SEQ", "  PAR", f"    {passing('change', scalars[:count])}", f"  {passing('few', scalars[count:])}"]
     return in_turns(under(["PAR"] * 57, inside), scalars, change=scalars[:count], few=scalars[count:])
@@ -549,28 +549,28 @@ SLOW = {
     "pars-alone-changing": (pars_alone_changing, 2, "instances that pass 52 variables in 60 PARs of one component"),
     "branches-changing": (branches_changing, 2, "instances that pass 1,000 variables in 59 PARs, in turns of an IF"),
     "branches-of-levels": (branches_of_levels, 2, "the same in 29 PARs, with an assignment before each"),
-    "branches-of-blocks": (branches_of_blocks, 2, "1,000 in 29 PARs, with an assignment in a PAR behind each"),
+    "branches-of-blocks": (branches_of_blocks, 2, "1,000 in 29 PARs, with an assignment in a PAR after each"),
     "branches-of-deep-blocks": (branches_of_deep_blocks, 2, "the same in two PARs in each other"),
     "branches-of-components": (branches_of_components, 2, "1,000 in 59 PARs, with a PAR beside the block in each"),
     "branches-of-choices": (branches_of_choices, 2, "1,000 in 29 IFs, with a PAR in another choice of each"),
-    "two-nests": (lambda: two_nests(52), 2, "52 variables in 28 PARs, with as many others in a PAR behind each"),
+    "two-nests": (lambda: two_nests(52), 2, "52 variables in 28 PARs, with as many others in a PAR after each"),
     "two-nests-wide": (lambda: two_nests(75), 2, "the same of 75"),
     "nests-in-choices": (lambda: nests_in_choices(415, 52), 3, "415 in 29 IFs, each with 52 in another choice"),
     "nests-in-choices-wide": (lambda: nests_in_choices(2_300, 288), 3, "the same with 2,300 variables and 288"),
     "nests-in-choices-few": (lambda: nests_in_choices(2_300, 257), 3, "the same with 2,300 variables and 257"),
     "ifs-behind": (
         lambda: assigned_behind("IF", "TRUE", 2_300, 257), 2,
-        "2,300 in 28 PARs, with an IF behind each that assigns to 257"
+        "2,300 in 28 PARs, with an IF after each that assigns to 257"
     ),
-    "alts-behind": (lambda: assigned_behind("ALT", "TRUE & SKIP", 2_300, 257), 2, "the same with an ALT behind each"),
+    "alts-behind": (lambda: assigned_behind("ALT", "TRUE & SKIP", 2_300, 257), 2, "the same with an ALT after each"),
     "ifs-behind-few": (
         lambda: assigned_behind("IF", "TRUE", 1_000, 65), 2, "1,000 in 28 PARs, with an IF that assigns to 65"
     ),
     "many-choices": (lambda: many_choices(256), 3, "3,000 choices of an IF that changed 256 variables"),
-    "many-choices-behind": (lambda: many_choices_behind(240), 3, "3,000 choices behind 2,000 variables in a PAR"),
-    "beside-nest": (lambda: beside_nest(26, 26), 3, "26 variables in a PAR, and 26 behind it, in 57 PARs"),
-    "beside-nest-few": (lambda: beside_nest(46, 5), 3, "46 variables in a PAR, and 5 behind it, in 57 PARs"),
-    "beside-nest-wide": (lambda: beside_nest(500, 500), 3, "500 variables in a PAR, and 500 behind it, in 57 PARs"),
+    "many-choices-behind": (lambda: many_choices_behind(240), 3, "3,000 choices after 2,000 variables in a PAR"),
+    "beside-nest": (lambda: beside_nest(26, 26), 3, "26 variables in a PAR, and 26 after it, in 57 PARs"),
+    "beside-nest-few": (lambda: beside_nest(46, 5), 3, "46 variables in a PAR, and 5 after it, in 57 PARs"),
+    "beside-nest-wide": (lambda: beside_nest(500, 500), 3, "500 variables in a PAR, and 500 after it, in 57 PARs"),
     "nests-outside": (
         lambda: nests_outside(1_000, lambda line: under(["PAR"] * 60, [line])), 2,
         "1,000 variables in 60 PARs, over and over, outside all blocks"

@@ -15,7 +15,7 @@ struct sent {
     size_t lengths[4];
 };
 
-/* Puts the message that the machine has just sent behind those of its link. */
+/* Puts the message that the machine has just sent after those of its link. */
 static void take_message(struct tpm_machine *machine, uint8_t link, struct sent *sent) {
     struct tpm_state state = {0};
     if (tpm_look(machine, &state) != TPM_ACCEPTED) fail("not loaded");

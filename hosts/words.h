@@ -30,7 +30,7 @@ static struct tpm_event event_of(const char *word) {
     return event;
 }
 
-/* Puts the events of a word behind those of the list. */
+/* Puts the events of a word after those of the list. */
 static void append(struct list *list, const char *word) {
     size_t times = 1;
     int read = 0;
