@@ -123,13 +123,13 @@ LinkedBy (WrittenRegion size lo hi) fact region first = lent_from size lo hi tru
 LinkedBy (Channels count len ends) fact region first = ⊤
 
 -- each two of a list pass the test that all pass
-pub each_two_at : (test : Parameter → Parameter → Bool) (ps : List Parameter) (i j : ℕ) (p q : Parameter) → i < j
+pub each_two_at : {A : Type 0} (test : A → A → Bool) (ps : List A) (i j : ℕ) (p q : A) → i < j
     → slice_get ps i ≡ Some p → slice_get ps j ≡ Some q → each_two test ps ≡ true → test p q ≡ true
 each_two_at test [] i j p q low a b all = absurd (cc)
 each_two_at test (r ∷ ps) i zero p q low a b all = absurd (omega arith)
-each_two_at test (r ∷ ps) zero (suc j) p q low a b all =
+each_two_at {A} test (r ∷ ps) zero (suc j) p q low a b all =
     let same : r ≡ p = cc in
-    subst (λ (x : Parameter). test x q ≡ true) same
+    subst (λ (x : A). test x q ≡ true) same
     (list_all_at (test r) ps j q (and_parts (list_all (test r) ps) (each_two test ps) all).0 b)
 each_two_at test (r ∷ ps) (suc i) (suc j) p q low a b all =
     each_two_at test ps i j p q (omega arith) a b (and_parts (list_all (test r) ps) (each_two test ps) all).1

@@ -1,5 +1,5 @@
 -- The runs of channels that a branch has, as the channels that a call passes.
-use Rattle.std.proofs.Common.{◌≡◌, ◌∙◌, ℕ, ◌<◌, ◌≤◌, ℤ, Bool, true, false, cond, Option, Some, None, refl, sym, ap}
+use Rattle.std.proofs.Common.{◌≡◌, ◌∙◌, ℕ, ◌≤◌, ℤ, Bool, true, false, cond, Option, Some, None, refl, ap}
 use Rattle.std.proofs.Common.{unwrap_or, arith}
 use Rattle.module_format.specs.declared.rows.EndKind.{EndKind}
 use Rattle.module_format.specs.declared.rows.EndKind.TheVariants as ends
@@ -7,7 +7,7 @@ use Rattle.module_format.specs.declared.rows.Direction.{Direction}
 use Rattle.module_format.specs.Contents.{Contents}
 use Rattle.certificate.specs.declared.runs.ChannelRun.{ChannelRun}
 use Rattle.certificate.specs.Runs.{IsRun, held_from}
-use Rattle.rulings.specs.Channels.{is_length, has_length_further, message_length, further}
+use Rattle.rulings.specs.Channels.{is_length, has_length_further}
 use Rattle.call_rules.specs.Callings.{HasAll, HasRun}
 
 -- what is there if a test is passed is there, so it is passed

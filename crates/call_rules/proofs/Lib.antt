@@ -8,3 +8,4 @@ pub mod Passing
 pub mod Resuming
 pub mod Touching
 pub mod ChannelRuns
+pub mod WrittenApart

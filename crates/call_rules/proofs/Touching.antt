@@ -40,10 +40,10 @@ use Rattle.call_rules.specs.CallRules as rule
 use Rattle.call_rules.specs.CallRules.{Calling, given, lent, lent_to, lent_from, pointers_fit, may_lend, lent_end}
 use Rattle.call_rules.specs.CallRules.{frame_size, with_all_lent, learns_word, passing, callee_word, frame_is_own}
 use Rattle.call_rules.specs.CallRules.{is_off_callee, each_two, behind_call, callee_span, calls_procedure, passes_all}
-use Rattle.call_rules.specs.CallRules.{spends, may_call}
+use Rattle.call_rules.specs.CallRules.{spends, may_call, give_other_ends}
 use Rattle.rulings.specs.Rulings.{wants, Ruling, Site, alone, calls}
 use Rattle.call_rules.specs.declared.calling.Touched.{Touched}
-use Rattle.call_rules.specs.Callings.{with_each, OwnsWords, OwnsLent, Touches, admits, entered}
+use Rattle.call_rules.specs.Callings.{with_each, OwnsWords, OwnsLent, Touches, admits, entered, brings_channels}
 use Rattle.rulings.proofs.Reaching.{word_of_byte_low, word_of_byte_high, touched_passes}
 use Rattle.call_rules.proofs.CallTests.{lend_parts, lent_fact}
 
@@ -219,6 +219,22 @@ pub two_more : (test : Parameter → Parameter → Bool) (p : Parameter) (rest o
     → rest ≡ p ∷ others → list_all (test p) others ≡ true → each_two test rest ≡ whole → each_two test others ≡ whole
 two_more test p rest others whole is all h =
     sym (ap (each_two test) is ∙ ap (λ (b : Bool). b && each_two test others) all) ∙ h
+
+-- Only a parameter that brings channels may be given an end that another is given.
+gives_none : (c : Calling) (q : Parameter) (word : ℕ) (kind : ParameterKind) → brings_channels kind ≡ false
+    → give_other_ends c (record { word = word; kind = kind }) q ≡ true
+unfolding give_other_ends
+gives_none c q word (Value lo hi) other = refl
+gives_none c q word (ReadRegion size lo hi) other = refl
+gives_none c q word (WrittenRegion size lo hi) other = refl
+gives_none c q word (Channels count len ends) other = absurd (cc)
+
+pub gives_none_of_each : (c : Calling) (p : Parameter) (qs : List Parameter) → brings_channels p.kind ≡ false
+    → list_all (give_other_ends c p) qs ≡ true
+gives_none_of_each c p [] other = refl
+gives_none_of_each c p (q ∷ qs) other =
+    and_from (give_other_ends c p q) (list_all (give_other_ends c p) qs) (gives_none c q p.word p.kind other)
+    (gives_none_of_each c p qs other)
 
 -- ---- the code's steps
 

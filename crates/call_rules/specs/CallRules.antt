@@ -180,8 +180,8 @@ are_apart None other = true
 are_apart (Some l) None = true
 are_apart (Some l) (Some k) = not (clash l k)
 
--- each two parameters pass a test
-abbrev pub each_two : (Parameter → Parameter → Bool) → List Parameter → Bool
+-- each two of a list pass a test
+abbrev pub each_two : {A : Type 0} → (A → A → Bool) → List A → Bool
 each_two test [] = true
 each_two test (p ∷ ps) = list_all (test p) ps && each_two test ps
 

@@ -1,10 +1,12 @@
 -- A call in memory, as the call that it is, and what its changes want.
 use Rattle.std.specs.Prelude.{◌≡◌, ⊤, ℕ, Bool, ◌≤◌, ◌<◌, ◌/◌, ℤ, pos, ◌+ℤ◌, ◌≤ℤ◌, ◌<ℤ◌, true, List, [], ◌∷◌, Option}
-use Rattle.std.specs.Prelude.{Some, None, map}
-use Rattle.std.specs.List.{AllByRecursion}
+use Rattle.std.specs.Prelude.{false, Some, None, map, slice_get, take, drop, ◌+◌, ◌&&◌, ◌||◌, not}
+use Rattle.std.specs.List.{AllByRecursion, list_all}
 use Rattle.module_format.specs.declared.rows.EndKind.{EndKind}
 use Rattle.module_format.specs.declared.rows.Direction.{Direction}
 use Rattle.module_format.specs.declared.rows.Parameter.{Parameter}
+use Rattle.module_format.specs.declared.rows.ParameterKind.{ParameterKind}
+use Rattle.module_format.specs.declared.rows.ParameterKind.TheVariants.{Channels}
 use Rattle.module_format.specs.Rows.{ProcedureRow}
 use Rattle.module_format.specs.declared.fact.Region.TheVariants as regions
 use Rattle.module_format.specs.Contents.{Contents, procedure_of}
@@ -22,12 +24,9 @@ use Rattle.rulings.specs.Reach.{word_of_byte}
 use Rattle.call_rules.specs.declared.calling.Touched.{Touched}
 use Rattle.call_rules.specs.declared.calling.Wanted.{Wanted}
 use Rattle.call_rules.specs.declared.calling.Wanted.TheVariants as wanted
-use Rattle.call_rules.specs.declared.calling.Pairwise.{Pairwise}
-use Rattle.call_rules.specs.declared.calling.Pairwise.TheVariants as pairwise
 use Rattle.rulings.specs.Rulings.{Ruling, alone, wants}
 use Rattle.call_rules.specs.CallRules.{Calling, callee_word, lent, passes_all, may_call, frame_is_own, frame_size}
 use Rattle.call_rules.specs.CallRules.{with_lent, are_apart, numbers_fit, pointers_fit, ends_are_held, lengths_fit}
-use Rattle.call_rules.specs.CallRules.{give_other_ends}
 use Rattle.rulings.specs.Channels.{has_end_further, further, message_length}
 
 abbrev pub calling_of : InMemory → Calling
@@ -42,9 +41,24 @@ call_in m s row = record { contents = m; state = state_of s; callee = procedure_
 abbrev pub entered : ℕ → ProcedureRow → Entered
 entered context row = record { context = context; procedure = procedure_of row }
 
--- no region that is written meets another, of two parameters
-abbrev pub are_apart_from : Calling → Parameter → Parameter → Bool
-are_apart_from c p q = are_apart (lent c p) (lent c q)
+-- a region, if it is written, meets none of these others
+abbrev pub is_apart_if_written : Option Lent → List (Option Lent) → Bool
+is_apart_if_written None others = true
+is_apart_if_written (Some l) others = not l.is_written || list_all (are_apart (Some l)) others
+
+-- it meets none of those before it and after it
+abbrev pub is_apart_from_others : Option (Option Lent) → List (Option Lent) → List (Option Lent) → Bool
+is_apart_from_others None earlier later = true
+is_apart_from_others (Some one) earlier later = is_apart_if_written one earlier && is_apart_if_written one later
+
+-- the region of this number, if it is written, meets none of the others
+abbrev pub is_apart_at : List (Option Lent) → ℕ → Bool
+is_apart_at all i = is_apart_from_others (slice_get all i) (take i all) (drop (i + 1) all)
+
+-- a parameter of this kind brings channels
+abbrev pub brings_channels : ParameterKind → Bool
+brings_channels (Channels count len ends) = true
+brings_channels _ = false
 
 -- a parameter is passed what is wanted of each
 abbrev pub fits : Wanted → Calling → Parameter → Bool
@@ -52,11 +66,6 @@ fits wanted.Numbers = numbers_fit
 fits wanted.Pointers = pointers_fit
 fits wanted.Ends = ends_are_held
 fits wanted.Lengths = lengths_fit
-
--- two parameters are passed what is wanted of each two
-abbrev pub fit_together : Pairwise → Calling → Parameter → Parameter → Bool
-fit_together pairwise.Apart = are_apart_from
-fit_together pairwise.OtherEnds = give_other_ends
 
 -- the first `count` numbers pass a test
 pub record HasAll (count : ℕ) (test : ℕ → Bool) : Type 0 where

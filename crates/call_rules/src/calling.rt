@@ -6,7 +6,7 @@ ghost use Rattle.call_rules.specs.CallRules.{is_near_fact};
 ghost use Rattle.rulings.specs.Telling.{Admits};
 
 use crate::calls::may_call;
-use crate::lent::{Lent, lent_to};
+use crate::lent::{Lent, all_are_apart, lent_to};
 use arrayvec::ArrayVec;
 use module_format::{Fact, Parameter, ParameterKind, ProcedureRow, Region};
 use rulings::Place;
@@ -48,15 +48,6 @@ pub(crate) enum Wanted {
     Lengths,
 }
 
-/// What a call wants of each two parameters.
-#[derive(Clone, Copy)]
-pub(crate) enum Pairwise {
-    /// No region that is written meets another.
-    Apart,
-    /// No end is given to both.
-    OtherEnds,
-}
-
 /// Whether a pointer that is used is near.
 fn is_near_fact(fact: WordFact) -> bool
     ensures { result ≡ is_near_fact fact }
@@ -77,11 +68,12 @@ impl Calling<'_, '_, '_, '_> {
     ghost use Rattle.states.specs.Views.{state_of, BelongsTo, CanWriteSpan};
     ghost use Rattle.rulings.specs.Reach.{word_of_byte};
     ghost use Rattle.call_rules.specs.CallRules.{callee_word, given, lent, lent_words, numbers_suit, numbers_fit};
-    ghost use Rattle.call_rules.specs.CallRules.{is_off_callee, may_use, words_fit, may_lend, pointers_fit, each_two};
+    ghost use Rattle.call_rules.specs.CallRules.{is_off_callee, may_use, words_fit, may_lend, pointers_fit};
     ghost use Rattle.call_rules.specs.CallRules.{lent_end, frame_size, frame_is_own, passes_all, parameter_suits};
+    ghost use Rattle.call_rules.specs.CallRules.{regions_are_apart};
     ghost use Rattle.rulings.specs.Rulings.{wants};
     ghost use Rattle.states.specs.declared.rule.Rule.TheVariants.{OwnWord};
-    ghost use Rattle.call_rules.specs.Callings.{calling_of, admits, Touches, are_apart_from, fits, fit_together};
+    ghost use Rattle.call_rules.specs.Callings.{calling_of, admits, Touches, fits};
     ghost use Rattle.rulings.specs.Telling.{Admits};
 
     /// The caller's word that is a word of the callee's frame.
@@ -265,16 +257,6 @@ impl Calling<'_, '_, '_, '_> {
         }
     }
 
-    /// Whether no region that is written meets another, of two parameters.
-    fn are_apart(&self, one: &Parameter, other: &Parameter) -> bool
-        ensures { result ≡ are_apart_from (calling_of self.now) one.now other.now }
-    {
-        match (self.lent(one), self.lent(other)) {
-            (Some(lent), Some(other)) => !lent.clashes(other),
-            _ => true,
-        }
-    }
-
     /// Whether a parameter is passed what is wanted.
     fn fits(&self, wanted: Wanted, parameter: &Parameter) -> bool
         requires { BelongsTo self.now.place.module.now self.now.state.now }
@@ -300,53 +282,27 @@ impl Calling<'_, '_, '_, '_> {
         true
     }
 
-    /// Whether two parameters are passed what is wanted.
-    fn fit_together(&self, wanted: Pairwise, one: &Parameter, other: &Parameter) -> bool
-        ensures { result ≡ fit_together wanted (calling_of self.now) one.now other.now }
+    /// Whether no region that is written meets another, if the parameters are lent this.
+    fn regions_are_apart(&self, all: &[Option<Lent>]) -> bool
+        requires { let call = calling_of self.now in all.now ≡ map (lent call) call.callee.parameters }
+        ensures { result ≡ regions_are_apart (calling_of self.now) }
     {
-        match wanted {
-            Pairwise::Apart => self.are_apart(one, other),
-            Pairwise::OtherEnds => self.give_other_ends(one, other),
-        }
+        all_are_apart(all)
     }
 
-    fn fits_each(&self, wanted: Pairwise, one: &Parameter, others: &[Parameter]) -> bool
-        ensures { result ≡ list_all (fit_together wanted (calling_of self.now) one.now) others.now }
-    {
-        for other in others {
-            if !self.fit_together(wanted, one, other) {
-                return false;
-            }
-        }
-        true
-    }
-
-    fn each_two_fit(&self, wanted: Pairwise) -> bool
-        ensures { let call = calling_of self.now in
-            result ≡ each_two (fit_together wanted call) call.callee.parameters }
-    {
-        let mut rest = self.callee.parameters.as_slice();
-        while let Some((first, others)) = rest.split_first() {
-            if !self.fits_each(wanted, first, others) {
-                return false;
-            }
-            rest = others;
-        }
-        true
-    }
-
-    /// What is passed suits the parameters.
-    #[tactic(auto, unfolding(crate::specs::CallRules::regions_are_apart, crate::specs::CallRules::ends_are_given))]
-    fn passes_all(&self) -> Result<(), Rule>
-        requires { BelongsTo self.now.place.module.now self.now.state.now }
+    /// What is passed suits the parameters, which are lent this.
+    #[tactic(auto, unfolding(crate::specs::CallRules::ends_are_given))]
+    fn passes_all(&self, all: &[Option<Lent>]) -> Result<(), Rule>
+        requires belongs { BelongsTo self.now.place.module.now self.now.state.now }
+        requires lent { let call = calling_of self.now in all.now ≡ map (lent call) call.callee.parameters }
         ensures test { Admits result (passes_all (calling_of self.now)) }
         ensures pointers { let call = calling_of self.now in
             IfOk result (λ _. list_all (pointers_fit call) call.callee.parameters ≡ true) }
     {
         wants(self.all_fit(Wanted::Numbers), Rule::Number)?;
         wants(self.all_fit(Wanted::Pointers), Rule::Pointer)?;
-        wants(self.each_two_fit(Pairwise::Apart), Rule::RegionsMeet)?;
-        let ends = self.all_fit(Wanted::Ends) && self.each_two_fit(Pairwise::OtherEnds);
+        wants(self.regions_are_apart(all), Rule::RegionsMeet)?;
+        let ends = self.all_fit(Wanted::Ends) && self.ends_are_apart();
         wants(ends, Rule::Channel)?;
         wants(self.all_fit(Wanted::Lengths), Rule::MessageLength)
     }
@@ -403,8 +359,30 @@ impl Calling<'_, '_, '_, '_> {
         all
     }
 
+    /// The caller may call the procedure, which has this number as a context, and pass it what it passes, by which it
+    /// lends this. Returns the first word of the callee's frame.
+    fn admits(&self, all: &[Option<Lent>], context: u32) -> Result<i32, Rule>
+        requires belongs { BelongsTo self.now.place.module.now self.now.state.now }
+        requires lent { let call = calling_of self.now in all.now ≡ map (lent call) call.callee.parameters }
+        requires some { 1 ≤ frame_size (procedure_of self.now.callee.now) }
+        ensures test { Admits result (admits (calling_of self.now) context) }
+        ensures pointers { let call = calling_of self.now in
+            IfOk result (λ _. list_all (pointers_fit call) call.callee.parameters ≡ true) }
+        ensures first { IfOk result (λ k. k ≡ callee_word (state_of self.now.state.now) self.now.callee.now.lo) }
+        ensures room { IfOk result (λ k. CanWriteSpan self.now.state.now k
+            (frame_size (procedure_of self.now.callee.now))) }
+    {
+        self.passes_all(all)?;
+        alone(self.state.mode)?;
+        wants(
+            may_call(&self.place, self.state.context, context),
+            Rule::Call,
+        )?;
+        self.owns_frame()
+    }
+
     /// The caller may call the procedure, which has this number as a context, and pass it what it passes. Returns what
-    /// the call may change.
+    /// the call may change. What each parameter is lent is found once, before any two are compared.
     pub fn touched(&self, context: u32) -> Result<Touched, Rule>
         requires belongs { BelongsTo self.now.place.module.now self.now.state.now }
         requires row { let procedure = procedure_of self.now.callee.now in
@@ -413,17 +391,12 @@ impl Calling<'_, '_, '_, '_> {
         ensures touched { IfOk result (Touches (calling_of self.now)) }
         ensures room { IfOk result (λ t. CanWriteSpan self.now.state.now t.first t.count) }
     {
-        self.passes_all()?;
-        alone(self.state.mode)?;
-        wants(
-            may_call(&self.place, self.state.context, context),
-            Rule::Call,
-        )?;
-        let first = self.owns_frame()?;
+        let lent = self.all_lent();
+        let first = self.admits(&lent, context)?;
         Ok(Touched {
             first,
             count: self.frame_size(),
-            lent: self.all_lent(),
+            lent,
         })
     }
 }

@@ -1,15 +1,27 @@
 //! What a call wants of the channels that it passes.
 
+ghost use Rattle.std.specs.Prelude.{◌≡◌};
+ghost use Rattle.call_rules.specs.Callings.{brings_channels};
+
 use crate::calling::Calling;
 use certificate::ChannelRun;
 use module_format::{Direction, EndKind, Ends, Parameter, ParameterKind};
 use rulings::channels::{are_disjoint, channel_of, channels_meet, has_direction};
 
+/// Whether a parameter of this kind brings channels.
+fn brings_channels(kind: ParameterKind) -> bool
+    ensures { result ≡ brings_channels kind }
+{
+    matches!(kind, ParameterKind::Channels { .. })
+}
+
 impl Calling<'_, '_, '_, '_> {
     ghost use Rattle.std.specs.Prelude.{◌≡◌, true, IfSome};
+    ghost use Rattle.std.specs.List.{list_all};
     ghost use Rattle.module_format.specs.Keeping.{Keeps};
     ghost use Rattle.rulings.specs.Channels.{further, has_end_further, has_length_further};
     ghost use Rattle.call_rules.specs.CallRules.{all_below, holds_ends, ends_are_held, lengths_fit, give_other_ends};
+    ghost use Rattle.call_rules.specs.CallRules.{each_two};
     ghost use Rattle.call_rules.specs.Callings.{calling_of, HasAllBefore, HasRun, HasAll};
 
     /// Whether the caller has the ends of a channel if it has those of one after it: so it is for the channels of its
@@ -118,7 +130,7 @@ impl Calling<'_, '_, '_, '_> {
 
     /// Whether no end is given to both parameters.
     #[tactic(auto, unfolding(crate::specs::CallRules::give_other_ends))]
-    pub fn give_other_ends(&self, one: &Parameter, other: &Parameter) -> bool
+    fn give_other_ends(&self, one: &Parameter, other: &Parameter) -> bool
         ensures { result ≡ give_other_ends (calling_of self.now) one.now other.now }
     {
         let ParameterKind::Channels { count, ends, .. } = one.kind else {
@@ -138,6 +150,36 @@ impl Calling<'_, '_, '_, '_> {
             }
             _ => true,
         }
+    }
+
+    /// Whether no end is given to a parameter and to one of these others. Only one that brings channels is given ends.
+    fn gives_other_ends(&self, one: &Parameter, others: &[Parameter]) -> bool
+        ensures { result ≡ list_all (give_other_ends (calling_of self.now) one.now) others.now }
+    {
+        if !brings_channels(one.kind) {
+            return true;
+        }
+        for other in others {
+            if !self.give_other_ends(one, other) {
+                return false;
+            }
+        }
+        true
+    }
+
+    /// Whether no end is given to two parameters.
+    pub fn ends_are_apart(&self) -> bool
+        ensures { let call = calling_of self.now in
+            result ≡ each_two (give_other_ends call) call.callee.parameters }
+    {
+        let mut rest = self.callee.parameters.as_slice();
+        while let Some((first, others)) = rest.split_first() {
+            if !self.gives_other_ends(first, others) {
+                return false;
+            }
+            rest = others;
+        }
+        true
     }
 
     /// Whether the channel `n` channels further has messages of this length.

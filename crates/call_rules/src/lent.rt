@@ -1,11 +1,14 @@
 //! Regions that a call lends to a procedure.
 
-ghost use Rattle.std.specs.Prelude.{◌≡◌, ◌/◌, Some, int_lt};
+ghost use Rattle.std.specs.Prelude.{◌≡◌, ◌/◌, ◌<◌, Some, int_lt, length};
+ghost use Rattle.std.specs.List.{list_all};
 ghost use Rattle.module_format.specs.declared.fact.Fact.TheVariants.{Number};
 ghost use Rattle.states.specs.declared.span.Leaving.TheVariants.{Become};
 ghost use Rattle.states.specs.Below.{lies_within};
 ghost use Rattle.rulings.specs.Reach.{word_of_byte, words_touched, lie_in};
 ghost use Rattle.call_rules.specs.CallRules.{lent_end, lent_from, lent_to, suits, parameter_suits, clash};
+ghost use Rattle.call_rules.specs.CallRules.{are_apart, each_two};
+ghost use Rattle.call_rules.specs.Callings.{is_apart_if_written, is_apart_at};
 
 use module_format::{Fact, Parameter, ParameterKind, Region, Step};
 use rulings::reach::{word_of_byte, word_of_offset};
@@ -158,4 +161,53 @@ pub(crate) fn lent_to(kind: ParameterKind, fact: WordFact) -> Option<Lent>
         ParameterKind::WrittenRegion { size, lo, hi } => lent_from(size, lo, hi, true, fact),
         _ => None,
     }
+}
+
+/// Whether no byte that one of the two may write is of both.
+fn are_apart(one: Option<Lent>, other: Option<Lent>) -> bool
+    ensures { result ≡ are_apart one other }
+{
+    match (one, other) {
+        (Some(lent), Some(other)) => !lent.clashes(other),
+        _ => true,
+    }
+}
+
+/// Whether a region meets none of these others, by bytes that one of the two may write.
+fn is_apart_from_each(lent: Lent, others: &[Option<Lent>]) -> bool
+    ensures { result ≡ list_all (are_apart (Some lent)) others.now }
+{
+    others.iter().all(|other| are_apart(Some(lent), *other))
+}
+
+/// Whether a region, if it is written, meets none of these others.
+fn is_apart_if_written(one: Option<Lent>, others: &[Option<Lent>]) -> bool
+    ensures { result ≡ is_apart_if_written one others.now }
+{
+    match one {
+        Some(lent) => !lent.is_written || is_apart_from_each(lent, others),
+        None => true,
+    }
+}
+
+/// Whether the region of this number, if it is written, meets none of those before it and after it.
+fn is_apart_at(all: &[Option<Lent>], number: usize) -> bool
+    requires { number < length all.now }
+    ensures { result ≡ is_apart_at all.now number }
+{
+    let one = all[number];
+    is_apart_if_written(one, &all[..number]) && is_apart_if_written(one, &all[number + 1..])
+}
+
+/// Whether no region that is written meets another of all that is lent: only those that are written are compared with
+/// the others.
+pub(crate) fn all_are_apart(all: &[Option<Lent>]) -> bool
+    ensures { result ≡ each_two are_apart all.now }
+{
+    for number in 0..all.len() {
+        if !is_apart_at(all, number) {
+            return false;
+        }
+    }
+    true
 }

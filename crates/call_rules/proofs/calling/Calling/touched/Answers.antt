@@ -8,15 +8,15 @@ use Rattle.call_rules.specs.Callings.{calling_of, OwnsLent}
 use Rattle.call_rules.proofs.Touching.{row_keeps, frame_some, all_owned}
 use Rattle.call_rules.proofs.calling.Calling.touched.Goals as goal
 
-pub owns_frame-requires-clause-some : goal.owns_frame-requires-clause-some
-owns_frame-requires-clause-some c =
+pub admits-requires-clause-some : goal.admits-requires-clause-some
+admits-requires-clause-some c =
     let m = c.args.self.now.place.module.now in
     let row = row_keeps m c.requires.belongs.kept c.requires.row.0 (procedure_of c.args.self.now.callee.now)
     c.requires.row.1 in
     frame_some (length m.code) row.0 (procedure_of c.args.self.now.callee.now) row.1
 
-pub all_lent-requires : goal.all_lent-requires
-all_lent-requires c =
+pub all_lent-lent-requires : goal.all_lent-lent-requires
+all_lent-lent-requires c =
     let m = c.args.self.now.place.module.now in
     let row = row_keeps m c.requires.belongs.kept c.requires.row.0 (procedure_of c.args.self.now.callee.now)
     c.requires.row.1 in
@@ -33,9 +33,9 @@ returns-clause-touched c =
       first = to_z-of_z w32 c.in_ok-first.first (search rules) ∙ c.in_ok-first.ensures.first;
       count = size;
       some = omega (arith, some, size);
-      lent = c.all_lent.ensures;
+      lent = c.all_lent-lent.ensures;
       own = subst (λ (all : List (Option Lent)). AllByRecursion (OwnsLent m c.args.self.now.state.now.context) all)
-          (sym c.all_lent.ensures)
+          (sym c.all_lent-lent.ensures)
           (all_owned (calling_of c.args.self.now) p.hi 0 p.parameters row.1.parameters
-          c.in_ok-passes_all.ensures.pointers);
+          c.in_ok-first.ensures.pointers);
     }

@@ -1,0 +1,11 @@
+use Rattle.std.proofs.Common.{rules, ◌∙◌, sym}
+use Rattle.call_rules.specs.CallRules.{give_other_ends}
+use Rattle.call_rules.specs.Callings.{calling_of}
+use Rattle.call_rules.proofs.Touching.{two_more}
+use Rattle.call_rules.proofs.calling.Calling.ends_are_apart.Goals as goal
+
+pub loop-first-preserved : goal.loop-first-preserved
+loop-first-preserved c =
+    two_more (give_other_ends (calling_of c.args.self.now)) c.in-Some.first.now c.loop-first.rest.now
+    c.in-Some.others.now _ (search rules) (sym c.gives_other_ends.ensures ∙ c.if-not-gives_other_ends.false)
+    c.loop-first.invariant
