@@ -5,7 +5,7 @@ ghost use Rattle.std.specs.List.{list_any, list_all};
 ghost use Rattle.module_format.specs.Contents.{Contents};
 ghost use Rattle.module_format.specs.Keeping.{Keeps};
 ghost use Rattle.states.specs.declared.known.Guard.{Guard};
-ghost use Rattle.states.specs.Views.{state_of, BelongsTo};
+ghost use Rattle.states.specs.Views.{state_of, BelongsTo, IsLeft};
 ghost use Rattle.rulings.specs.Rulings.{pays};
 ghost use Rattle.rulings.specs.Telling.{Leaves};
 ghost use Rattle.rulings.specs.Places.{site_of};
@@ -18,7 +18,7 @@ use crate::guards::exit_at;
 use crate::modes::while_disabling;
 use rulings::Place;
 use rulings::combinators::wants;
-use states::{Guard, Mode, Rule, State, cost_below, label_rows_are_sound};
+use states::{Guard, Mode, Rule, State, cost_at, cost_below, label_rows_are_sound};
 
 /// Whether a guard leads to a label.
 fn leads_to_label(place: &Place, guard: Guard) -> bool
@@ -79,23 +79,31 @@ fn exit_below(place: &Place, state: &State, guard: Guard) -> Result<u64, Rule>
     }
 }
 
-/// Whether a state may go on where a guard leads.
-fn is_below_exit(place: &Place, state: &State, guard: Guard) -> bool
-    requires { Keeps place.now.module.now }
-    ensures { result ≡ is_below_exit (site_of place.now) (state_of state.now) guard }
+/// Whether a state may go on where a guard leads. The comparison is remembered for the guards that lead there too.
+fn is_below_exit(place: &Place, state: &mut State, guard: Guard) -> bool
+    requires { BelongsTo place.now.module.now state.old }
+    ensures below { result ≡ is_below_exit (site_of place.now) (state_of state.old) guard }
+    ensures left { IsLeft state.old state.new }
 {
-    exit_below(place, state, guard).is_ok()
+    match exit_at(place, guard) {
+        Some(to) => cost_at(state, to).is_ok(),
+        None => false,
+    }
 }
 
 /// Whether a state may go on where each guard leads.
-fn is_below_each(place: &Place, state: &State) -> bool
-    requires { Keeps place.now.module.now }
-    ensures { result ≡ list_all (is_below_exit (site_of place.now) (state_of state.now)) (state_of state.now).guards }
+fn is_below_each(place: &Place, state: &mut State) -> bool
+    requires { BelongsTo place.now.module.now state.old }
+    ensures below { let s = state_of state.old in result ≡ list_all (is_below_exit (site_of place.now) s) s.guards }
+    ensures left { IsLeft state.old state.new }
 {
-    state
-        .guards
-        .iter()
-        .all(|guard| is_below_exit(place, state, *guard))
+    for number in 0..state.guards.len() {
+        let guard = state.guards[number];
+        if !is_below_exit(place, state, guard) {
+            return false;
+        }
+    }
+    true
 }
 
 /// Whether a state cannot pay the label to which a guard leads.
@@ -122,11 +130,12 @@ fn has_unpaid(place: &Place, state: &State) -> bool
 
 /// A state may go on where each guard leads. If not, the lowest rule of all is the one that is broken.
 #[tactic(auto, unfolding(crate::specs::AlternationRules::leaves_by_exits))]
-fn leaves_by_exits(place: &Place, state: &State) -> Result<(), Rule>
-    requires { Keeps place.now.module.now }
-    ensures { let s = state_of state.now in
+fn leaves_by_exits(place: &Place, state: &mut State) -> Result<(), Rule>
+    requires { BelongsTo place.now.module.now state.old }
+    ensures ruling { let s = state_of state.old in
         (guards : List Guard) → s.guards ≡ guards
         → Selects result (exits (site_of place.now) guards) (leaves_by_exits (site_of place.now) guards s) }
+    ensures belongs { BelongsTo place.now.module.now state.new }
 {
     if is_below_each(place, state) {
         return Ok(());
