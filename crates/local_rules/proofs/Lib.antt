@@ -7,6 +7,7 @@ pub mod MemoryFits
 pub mod MovesFit
 pub mod Narrowed
 pub mod NarrowedWords
+pub mod Paying
 pub mod Results
 pub mod RulesTold
 pub mod Sources

@@ -129,6 +129,11 @@ turns block begins s =
     ]
     else falls (after_loop block s)
 
+-- the state may go on as the label at an offset, if there is one, with this number to pay from
+abbrev pub MayGoOn : Contents → ℕ → ℕ → State → Type 0
+MayGoOn m to number s =
+    (t : Label) → label_at m to ≡ Some t → (cost : ℕ) × (compared number (view s) t ≡ Ok cost)
+
 -- the loop may turn where this is so, and ends else
 abbrev pub turns_or_ends : Bool → Block → Beginning → State → Ruling
 turns_or_ends may_turn block begins s =

@@ -1,13 +1,14 @@
 //! The rule of `lend`, which ends a turn of a loop.
 
-ghost use Rattle.std.specs.Prelude.{◌≡◌, ◌+ℤ◌, pos, FitsSigned, IfSome};
+ghost use Rattle.std.specs.Prelude.{◌≡◌, ◌<◌, ◌+◌, ◌+ℤ◌, pos, FitsSigned, Some, IfSome, IsTrue};
 ghost use Rattle.std.specs.Int.{w32};
-ghost use Rattle.module_format.specs.Contents.{Contents, label_of};
+ghost use Rattle.module_format.specs.Contents.{Contents, label_of, label_at};
+ghost use Rattle.states.specs.Below.{below_at};
 ghost use Rattle.states.specs.Rows.{AreApart};
 ghost use Rattle.states.specs.Views.{state_of, CanWrite, BelongsTo};
 ghost use Rattle.local_rules.specs.LoopRules.{after_loop, begins_at, is_beside_workspace, last_index, loop_block};
 ghost use Rattle.local_rules.specs.LoopRules.{word_pointed, Permits, block_at, block_of, beginning, turns, OwnsBlock};
-ghost use Rattle.local_rules.specs.LoopRules.{begins_of};
+ghost use Rattle.local_rules.specs.LoopRules.{begins_of, MayGoOn};
 ghost use Rattle.std.specs.Option.{option_map};
 ghost use Rattle.module_format.specs.Keeping.{Keeps};
 ghost use Rattle.machine_state.specs.declared.op.Op.TheVariants.{LoopEnd};
@@ -18,7 +19,7 @@ ghost use Rattle.rulings.specs.Places.{site_of};
 use module_format::{Fact, LabelRow, Region, Stack};
 use rulings::combinators::{outside_alternation, outside_starts, uses};
 use rulings::{Continuation, Place};
-use states::{Known, Loop, Rule, State, WordFact, compare, label_rows_are_sound};
+use states::{Known, Loop, Rule, State, WordFact, compare, cost_at, label_rows_are_sound};
 
 /// The block of a loop: two words of the frame, its index and, after it, its count.
 #[derive(Clone, Copy)]
@@ -78,18 +79,76 @@ fn is_beside_workspace(depth: i32, word: i32) -> bool
     depth <= word || i64::from(word) + 4 < i64::from(depth)
 }
 
+/// What it would cost the state to go on at the label of an offset if it might pay this number, as `cost_at` says and
+/// remembers it.
+fn cost_with(place: &Place, state: &mut State, number: u64, to: u32) -> Result<u64, Rule>
+    requires { BelongsTo place.now.module.now state.old }
+    ensures cost { result
+        ≡ below_at place.now.module.now to (record (state_of state.old) { number = number }) }
+    ensures state { state_of state.new ≡ state_of state.old }
+    ensures belongs { BelongsTo place.now.module.now state.new }
+{
+    let own = state.number;
+    state.number = number;
+    let cost = cost_at(state, to);
+    state.number = own;
+    cost
+}
+
+/// Whether the state may go on at the label of an offset with this number to pay from, or with as much of it as 64 bits
+/// hold. What is remembered tells so from the second time on.
+fn may_go_on(place: &Place, state: &mut State, number: u128, to: u32) -> bool
+    requires { BelongsTo place.now.module.now state.old }
+    ensures yes { IsTrue result → MayGoOn place.now.module.now to number (state_of state.old) }
+    ensures state { state_of state.new ≡ state_of state.old }
+    ensures belongs { BelongsTo place.now.module.now state.new }
+{
+    let most = number.min(u128::from(u64::MAX)) as u64;
+    cost_with(place, state, most, to).is_ok()
+}
+
+/// What the state may pay for a turn of the loop: its number, and the loop's weight besides.
+fn with_weight(state: &State, block: Block) -> u128
+    ensures { result ≡ (state_of state.now).number + block.turning.weight }
+{
+    u128::from(state.number) + u128::from(block.turning.weight)
+}
+
+/// Whether the loop, which has more than one turn, may turn, as the label's row tells: its weight pays for the turn that
+/// begins.
+#[tactic(auto, unfolding(crate::specs::LoopRules::turns))]
+fn pays_turn(state: &State, block: Block, to: u32, row: &LabelRow) -> Result<bool, Rule>
+    requires some { 1 < block.turning.count }
+    requires apart { AreApart row.now.entries.items }
+    ensures { Permits result block (begins_at to (label_of row.now)) (state_of state.now) }
+{
+    compare(with_weight(state, block), state, row)?;
+    Ok(true)
+}
+
 /// Whether the loop may turn: it has more than one turn, and its weight pays for the one that begins.
 #[tactic(auto, unfolding(crate::specs::LoopRules::turns))]
-fn may_turn(state: &State, block: Block, to: u32, row: &LabelRow) -> Result<bool, Rule>
-    requires { AreApart row.now.entries.items }
-    ensures { Permits result block (begins_at to (label_of row.now)) (state_of state.now) }
+fn may_turn(
+    place: &Place,
+    state: &mut State,
+    block: Block,
+    to: u32,
+    row: &LabelRow,
+) -> Result<bool, Rule>
+    requires belongs { BelongsTo place.now.module.now state.old }
+    requires label { label_at place.now.module.now to ≡ Some (label_of row.now) }
+    requires apart { AreApart row.now.entries.items }
+    ensures permits { Permits result block (begins_at to (label_of row.now)) (state_of state.old) }
+    ensures state { state_of state.new ≡ state_of state.old }
+    ensures belongs { BelongsTo place.now.module.now state.new }
 {
     if block.turning.count < 2 {
         return Ok(false);
     }
-    let number = u128::from(state.number) + u128::from(block.turning.weight);
-    compare(number, state, row)?;
-    Ok(true)
+    if may_go_on(place, state, with_weight(state, block), to) {
+        return Ok(true);
+    }
+    pays_turn(state, block, to, row)
 }
 
 /// The loop is over.
@@ -134,6 +193,8 @@ fn block_of(place: &Place, state: &State, fact: Fact) -> Option<Block>
 fn beginning<'p>(place: &'p Place, distance: Fact) -> Option<(u32, &'p LabelRow)>
     requires { Keeps place.now.module.now }
     ensures found { option_map begins_of result ≡ beginning (site_of place.now) distance }
+    ensures label { IfSome result
+        (λ found. label_at place.now.module.now found.0 ≡ Some (label_of found.1.now)) }
     ensures apart { IfSome result (λ found. AreApart found.1.now.entries.items) }
 {
     let Fact::Number { lo, hi } = distance else {
@@ -160,12 +221,13 @@ fn turns(
 ) -> Result<Continuation, Rule>
     requires belongs { BelongsTo place.now.module.now state.old }
     requires own { OwnsBlock place.now.module.now block }
+    requires label { label_at place.now.module.now to ≡ Some (label_of row.now) }
     requires apart { AreApart row.now.entries.items }
     ensures ruling { let begins = begins_at to (label_of row.now) in
         Advances result (state_of state.new) (turns block begins (state_of state.old)) }
     ensures belongs { BelongsTo place.now.module.now state.new }
 {
-    let may_turn = may_turn(state, block, to, row)?;
+    let may_turn = may_turn(place, state, block, to, row)?;
     leave(state, block);
     Ok(if may_turn {
         Continuation::FallsOrLeads { to }
