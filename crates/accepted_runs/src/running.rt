@@ -11,8 +11,8 @@ ghost use Rattle.accepted_runs.specs.Running.{Shows, HasGoneAndReacted};
 
 use link_runs::{Machine, Progress, Reaction};
 use machine_state::{Effect, Event, Link};
-use module_format::Tables;
 use plain_machine::DecodedCode;
+use plain_run::Program;
 use std::alloc::{AllocError, Global};
 use std::convert::Infallible;
 use std::marker::Model;
@@ -22,28 +22,28 @@ use verifier::Verified;
 /// allocated when the module is loaded.
 #[derive(Drop)]
 pub struct Run<'a> {
-    tables: &'a Tables<'a>,
-    code: DecodedCode<'a>,
+    program: Program,
+    code: &'a [u8],
+    decoded: DecodedCode<'a>,
     machine: plain_run::Machine,
     has_sent: bool,
 }
 
 impl<'a> Model for Run<'a> {
     ghost use Rattle.std.specs.Prelude.{◌≡◌};
-    ghost use Rattle.module_format.specs.Contents.{contents_of};
     ghost use Rattle.accepted_runs.specs.Running.{PlainExecution, Runs};
     ghost use Rattle.accepted_runs.specs.Reacting.{message_of, HasMessage};
 
     ghost Value = { PlainExecution };
 
     ghost view = { λ r. record {
-      contents = contents_of r.tables.now;
+      contents = r.program;
       machine = r.machine;
       last = message_of r.has_sent r.machine;
     } };
 
-    ghost invariant = { λ r. Runs (contents_of r.tables.now) r.machine × HasMessage r.has_sent r.machine
-        × (r.code ≡ (contents_of r.tables.now).code) };
+    ghost invariant = { λ r. Runs r.program r.machine × HasMessage r.has_sent r.machine
+        × (r.code.now ≡ r.program.code) × (r.decoded ≡ r.program.code) };
 }
 
 /// Each event is one that can happen: what arrives is a byte.
@@ -83,11 +83,13 @@ impl<'a> Run<'a> {
         ensures shows { IfOk result (λ r. Shows r (loaded verified.now)) }
     {
         let tables = verified.module().tables();
-        let code = DecodedCode::of(alloc, tables.code)?;
+        let decoded = DecodedCode::of(alloc, tables.code)?;
         let machine = plain_run::Machine::load(alloc, tables)?;
+        let program = Program::of(tables);
         Ok(Run {
-            tables,
-            code,
+            program,
+            code: tables.code,
+            decoded,
             machine,
             has_sent: false,
         })
@@ -101,7 +103,7 @@ impl<'a> Run<'a> {
             → HasReacted self.old.contents w event result self.new.last (Shows self.new) }
     {
         can_happen(event);
-        let reaction = self.machine.apply(self.tables, event);
+        let reaction = self.machine.apply(&self.program, self.code, event);
         self.has_sent = has_sent(reaction);
         reaction
     }
@@ -112,7 +114,7 @@ impl<'a> Run<'a> {
     fn go_on(&mut self) -> Reaction
         ensures { HasGoneAndReacted self.old result self.new }
     {
-        let done = self.machine.go_on(self.tables, &self.code);
+        let done = self.machine.go_on(&self.program, self.code, &self.decoded);
         self.has_sent = has_sent(done);
         done
     }

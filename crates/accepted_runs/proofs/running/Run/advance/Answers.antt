@@ -1,20 +1,19 @@
 use Rattle.std.proofs.Common.{Bool, subst, sym}
-use Rattle.module_format.specs.Contents.{contents_of}
 use Rattle.machine_state.specs.Happens.{happens}
 use Rattle.accepted_runs.specs.Running.{PlainExecution, AgreesOn, Shows}
 use Rattle.accepted_runs.specs.Reacting.{HasMessage}
 use Rattle.accepted_runs.proofs.Happening as happening
 use Rattle.accepted_runs.proofs.running.Run.advance.Goals as goal
 
-pub apply-reaction-requires : goal.apply-reaction-requires
-apply-reaction-requires c =
+pub apply-reaction-requires-clause-can : goal.apply-reaction-requires-clause-can
+apply-reaction-requires-clause-can c =
     let somewhere = c.self.invariant.0 in
-    happening.can_happen (contents_of c.self.inside.tables.now) c.self.inside.machine somewhere.0 somewhere.1
+    happening.can_happen c.self.inside.program c.self.inside.machine somewhere.0 somewhere.1
     c.args.event c.can_happen.ensures
 
 pub invariant_of-self : goal.invariant_of-self
 invariant_of-self c =
-    let m = contents_of c.self.inside.tables.now in
+    let m = c.self.inside.program in
     let somewhere = c.self.invariant.0 in
     let reaction = c.apply-reaction.result in
     let after = c.apply-reaction.new.self in (
@@ -27,11 +26,12 @@ invariant_of-self c =
           (happening.has_message m c.self.inside.machine somewhere.0 somewhere.1 c.args.event c.can_happen.ensures reaction
           after c.apply-reaction.ensures),
       c.self.invariant.2,
+      c.self.invariant.3,
     )
 
 pub returns-clause-reacts : goal.returns-clause-reacts
 returns-clause-reacts c w shows =
-    let m = contents_of c.self.inside.tables.now in
+    let m = c.self.inside.program in
     let before = c.self.inside.machine in
     let reaction = c.apply-reaction.result in
     let after = c.apply-reaction.new.self in

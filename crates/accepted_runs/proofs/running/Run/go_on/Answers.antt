@@ -1,5 +1,4 @@
 use Rattle.std.proofs.Common.{Bool, subst, sym}
-use Rattle.module_format.specs.Contents.{contents_of}
 use Rattle.machine_state.specs.Happens.{happens}
 use Rattle.link_runs.specs.FirstInFirstOut.{plain_step}
 use Rattle.accepted_runs.specs.Running.{PlainExecution, HasGoneAndReacted}
@@ -11,11 +10,11 @@ use Rattle.accepted_runs.proofs.running.Run.go_on.Goals as goal
 pub go_on-done-requires-clause-can : goal.go_on-done-requires-clause-can
 go_on-done-requires-clause-can c =
     let somewhere = c.self.invariant.0 in
-    can_run_alone (contents_of c.self.inside.tables.now) c.self.inside.machine somewhere.0 somewhere.1
+    can_run_alone c.self.inside.program c.self.inside.machine somewhere.0 somewhere.1
 
 pub invariant_of-self : goal.invariant_of-self
 invariant_of-self c =
-    let m = contents_of c.self.inside.tables.now in
+    let m = c.self.inside.program in
     let somewhere = c.self.invariant.0 in
     let x = c.go_on-done.ensures in
     let reaction = c.go_on-done.result in
@@ -28,11 +27,12 @@ invariant_of-self c =
       subst (λ (b : Bool). HasMessage b after) (sym c.has_sent-self-inside.ensures)
           (happening.has_message m x.between come.world come.on plain_step tt reaction after x.reacts),
       c.self.invariant.2,
+      c.self.invariant.3,
     )
 
 pub returns : goal.returns
 returns c =
-    let m = contents_of c.self.inside.tables.now in
+    let m = c.self.inside.program in
     let x = c.go_on-done.ensures in
     let reaction = c.go_on-done.result in
     let after = c.go_on-done.new.self in
