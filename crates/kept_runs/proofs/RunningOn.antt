@@ -151,7 +151,10 @@ module _ (m : Contents) where
           }
 
     -- ---- where the limit is reached
-    module _ (after : PlainMachine) (goes : GoesBy m now end None after) where
+    module _ (after : PlainMachine) (o : Option Reaction) (none : o ≡ None) (did : GoesBy m now end o after) where
+      goes : GoesBy m now end None after
+      goes = subst (λ (p : Option Reaction). GoesBy m now end p after) none did
+
       pub stepped_there : RunsStill start after end
       stepped_there = record {
         on = λ w on.
@@ -179,11 +182,15 @@ module _ (m : Contents) where
           omega (arith, so, then, count, reached)
 
     -- ---- where a Step did this
-    module _ (after : PlainMachine) (r : Reaction) (goes : GoesBy m now end (Some r) after) where
+    module _ (after : PlainMachine) (r : Reaction) (o : Option Reaction) (some : o ≡ Some r)
+        (did : GoesBy m now end o after) where
+      went_so : GoesBy m now end (Some r) after
+      went_so = subst (λ (p : Option Reaction). GoesBy m now end p after) some did
+
       -- the Step has run
       module _ (none : stop_by r ≡ None) (v : World) (on : AgreesOn m now v) where
         abbrev went : GoesTo m v now.counters.executed end (Some r) after
-        went = goes v on
+        went = went_so v on
 
         ran_there : (turn m went.world plain_step).answer ≡ Ok ran
         ran_there = by r (has_run r none) went.ends.reacts
@@ -214,13 +221,13 @@ module _ (m : Contents) where
       stepped_further none = record {
         on = λ w on.
             let here = still.on w on in
-            let x = goes here.world here.agrees in
+            let x = went_so here.world here.agrees in
             let same : now.counters.executed + x.steps + 1 ≡ now.counters.executed + suc x.steps = omega arith in
             stepped_to w here after (suc x.steps) (happens m x.world plain_step)
             (quietly_on none here.world here.agrees) x.ends.reacts.is_shown
             (subst (StopsAfter m here.world now.counters.executed end) same x.ends.within);
         runs =
-            let x = goes still.runs.0 still.runs.1 in (happens m x.world plain_step, x.ends.reacts.is_shown);
+            let x = went_so still.runs.0 still.runs.1 in (happens m x.world plain_step, x.ends.reacts.is_shown);
         first = still.first;
         more =
             let later = later_on none still.runs.0 still.runs.1 in
@@ -235,7 +242,7 @@ module _ (m : Contents) where
 
       pub no_less : start.counters.executed ≤ after.counters.executed
       no_less =
-          let x = goes still.runs.0 still.runs.1 in
+          let x = went_so still.runs.0 still.runs.1 in
           let so = count_in now still.runs.0 still.runs.1 in
           let then = count_in after (happens m x.world plain_step) x.ends.reacts.is_shown in
           let count = counts still.runs.0 x.steps x.world x.quietly in
@@ -245,10 +252,10 @@ module _ (m : Contents) where
 
       -- it has stopped
       pub runs_after : Runs m after
-      runs_after = let x = goes still.runs.0 still.runs.1 in (happens m x.world plain_step, x.ends.reacts.is_shown)
+      runs_after = let x = went_so still.runs.0 still.runs.1 in (happens m x.world plain_step, x.ends.reacts.is_shown)
 
       pub has_message : (stop : RunStop) → stop_by r ≡ Some stop → HasMessage (has_emitted stop) after
-      has_message stop is = by r stop is (goes still.runs.0 still.runs.1).ends.message
+      has_message stop is = by r stop is (went_so still.runs.0 still.runs.1).ends.message
         where
           by : (q : Reaction) (stop : RunStop) → stop_by q ≡ Some stop → HasMessage (is_sent q) after
               → HasMessage (has_emitted stop) after
@@ -272,7 +279,7 @@ module _ (m : Contents) where
         here = still.on w on
 
         abbrev gone : GoesTo m here.world now.counters.executed end (Some r) after
-        gone = goes here.world here.agrees
+        gone = went_so here.world here.agrees
 
         abbrev Stops : RunStop → Type 0
         Stops stop = HasRunOn m w limit

@@ -1,5 +1,4 @@
 pub mod Held
 pub mod Machine
-pub mod OwnTables
 pub mod RunningOn
 pub mod GoingOn

@@ -1,4 +1,4 @@
-//! An accepted module on the plain machine, with all that it needs.
+//! An accepted module on the plain machine, with all that it reads.
 
 ghost use Rattle.std.specs.Prelude.{◌≡◌, IfOk};
 ghost use Rattle.module_format.specs.Contents.{contents_of};
@@ -11,12 +11,12 @@ ghost use Rattle.accepted_runs.specs.Running.{Shows};
 ghost use Rattle.kept_runs.specs.RunningOn.{HasRunOn};
 
 use crate::moving::{advance, has_emitted, has_sent, run};
-use crate::own_tables::{Numbers, Rows, numbers_of, rows_of, tables_with};
 use crate::running_on::RunReport;
 use link_runs::Reaction;
 use machine_state::{Event, Link};
 use module_format::Tables;
 use plain_machine::{DecodedCode, DecodedInstruction};
+use plain_run::Program;
 use std::alloc::{AllocError, Global};
 use std::marker::Model;
 use std::mem::replace;
@@ -25,31 +25,29 @@ use std::mem::replace;
 /// memory is allocated when the module is loaded.
 #[derive(Drop)]
 pub struct KeptRun {
+    program: Program,
     code: Vec<u8>,
     entries: Vec<DecodedInstruction>,
-    constants: Vec<u8>,
-    numbers: Numbers,
-    rows: Rows,
     machine: plain_run::Machine,
     has_sent: bool,
 }
 
 impl Model for KeptRun {
+    ghost use Rattle.std.specs.Prelude.{◌≡◌};
     ghost use Rattle.accepted_runs.specs.Running.{PlainExecution, Runs};
     ghost use Rattle.accepted_runs.specs.Reacting.{message_of, HasMessage};
     ghost use Rattle.plain_machine.specs.Sequences.{AreEntries};
-    ghost use Rattle.kept_runs.specs.OwnTables.{contents_in};
 
     ghost Value = { PlainExecution };
 
     ghost view = { λ r. record {
-      contents = contents_in r.code.items r.constants.items r.numbers r.rows;
+      contents = r.program;
       machine = r.machine;
       last = message_of r.has_sent r.machine;
     } };
 
-    ghost invariant = { λ r. Runs (contents_in r.code.items r.constants.items r.numbers r.rows) r.machine
-        × HasMessage r.has_sent r.machine × AreEntries r.code.items r.entries.items };
+    ghost invariant = { λ r. Runs r.program r.machine × HasMessage r.has_sent r.machine
+        × (r.code.items ≡ r.program.code) × AreEntries r.program.code r.entries.items };
 }
 
 impl KeptRun {
@@ -58,24 +56,21 @@ impl KeptRun {
     /// # Errors
     ///
     /// If memory runs out.
-    pub fn load(alloc: Global, tables: Tables<'_>) -> Result<KeptRun, AllocError>
-        requires keeps { Keeps (contents_of tables) }
-        requires well { RunsWell (contents_of tables) }
-        ensures contents { IfOk result (λ r. r.contents ≡ contents_of tables.entry) }
-        ensures shows { IfOk result (λ r. Shows r (loaded (contents_of tables.entry))) }
+    pub fn load(alloc: Global, tables: &Tables<'_>) -> Result<KeptRun, AllocError>
+        requires keeps { Keeps (contents_of tables.now) }
+        requires well { RunsWell (contents_of tables.now) }
+        ensures contents { IfOk result (λ r. r.contents ≡ contents_of tables.now) }
+        ensures shows { IfOk result (λ r. Shows r (loaded (contents_of tables.now))) }
     {
-        let machine = plain_run::Machine::load(alloc, &tables)?;
+        let machine = plain_run::Machine::load(alloc, tables)?;
         let decoded = DecodedCode::of(alloc, tables.code)?;
         let entries = decoded.into_entries();
         let code = Vec::from_slice(alloc, tables.code)?;
-        let constants = Vec::from_slice(alloc, tables.constants)?;
-        let numbers = numbers_of(&tables);
+        let program = Program::of(tables);
         Ok(KeptRun {
+            program,
             code,
             entries,
-            constants,
-            numbers,
-            rows: rows_of(tables),
             machine,
             has_sent: false,
         })
@@ -83,15 +78,12 @@ impl KeptRun {
 
     /// One event, and what it did. In each world that the machine agrees with it is no fault, this is its effect, and
     /// the machine agrees with the world after it.
-    pub fn advance(&mut self, alloc: Global, event: Event) -> Reaction
+    pub fn advance(&mut self, event: Event) -> Reaction
         ensures contents { self.new.contents ≡ self.old.contents }
         ensures reacts { (w : World) → Shows self.old w
             → HasReacted self.old.contents w event result self.new.last (Shows self.new) }
     {
-        let rows = replace(&mut self.rows, Rows::empty(alloc));
-        let tables = tables_with(&self.code, &self.constants, self.numbers, rows);
-        let reaction = advance(&mut self.machine, &tables, event);
-        self.rows = rows_of(tables);
+        let reaction = advance(&mut self.machine, &self.program, &self.code, event);
         self.has_sent = has_sent(reaction);
         reaction
     }
@@ -104,13 +96,16 @@ impl KeptRun {
         ensures reaches { (w : World) → Shows self.old w
             → HasRunOn self.old.contents w limit result self.new.last (Shows self.new) }
     {
-        let rows = replace(&mut self.rows, Rows::empty(alloc));
-        let tables = tables_with(&self.code, &self.constants, self.numbers, rows);
         let entries = replace(&mut self.entries, Vec::new(alloc));
-        let code = DecodedCode::with_entries(tables.code, entries);
-        let report = run(&mut self.machine, &tables, &code, limit);
-        self.entries = code.into_entries();
-        self.rows = rows_of(tables);
+        let decoded = DecodedCode::with_entries(&self.code, entries);
+        let report = run(
+            &mut self.machine,
+            &self.program,
+            &self.code,
+            &decoded,
+            limit,
+        );
+        self.entries = decoded.into_entries();
         self.has_sent = has_emitted(report.stop);
         report
     }

@@ -5,7 +5,6 @@ mod host_machine;
 mod kept_run;
 mod loose;
 mod moving;
-mod own_tables;
 mod run_handle;
 mod running_on;
 

@@ -1,7 +1,6 @@
-//! What a machine does, with the tables of its module beside it.
+//! What a machine does, with what it reads of its module beside it.
 
 ghost use Rattle.std.specs.Prelude.{◌≡◌, ◌+◌, ◌-◌, ◌^◌, ◌<◌, ◌≤◌};
-ghost use Rattle.module_format.specs.Contents.{contents_of};
 ghost use Rattle.machine_state.specs.World.{World};
 ghost use Rattle.verifier.specs.Headline.{IsEvent};
 ghost use Rattle.link_runs.specs.Driving.{HasReacted};
@@ -13,9 +12,8 @@ ghost use Rattle.kept_runs.specs.GoingOn.{GoesBy};
 use crate::running_on::{RunReport, RunStop};
 use link_runs::Reaction;
 use machine_state::Event;
-use module_format::Tables;
 use plain_machine::DecodedCode;
-use plain_run::Machine;
+use plain_run::{Machine, Program};
 
 /// The Step after which no process gives way, and the first that is ready is next.
 const PLAIN_STEP: Event = Event::Step {
@@ -55,15 +53,16 @@ fn stop_of(reaction: Reaction) -> Option<RunStop>
 
 /// One event, and what it did. In each world that the machine agrees with it is no fault, this is its effect, and the
 /// machine agrees with the world after it.
-pub fn advance(machine: &mut Machine, tables: &Tables<'_>, event: Event) -> Reaction
-    requires { Runs (contents_of tables.now) machine.old }
-    ensures runs { Runs (contents_of tables.now) machine.new }
+pub fn advance(machine: &mut Machine, program: &Program, code: &[u8], event: Event) -> Reaction
+    requires runs { Runs program.now machine.old }
+    requires code { code.now ≡ program.now.code }
+    ensures runs { Runs program.now machine.new }
     ensures message { HasMessage (is_sent result) machine.new }
-    ensures reacts { let m = contents_of tables.now in (w : World) → AgreesOn m machine.old w
+    ensures reacts { let m = program.now in (w : World) → AgreesOn m machine.old w
         → HasReacted m w event result (message_of (is_sent result) machine.new) (AgreesOn m machine.new) }
 {
     can_happen(event);
-    machine.apply(tables, event)
+    machine.apply(program, code, event)
 }
 
 /// What is reported of a run that began after so many bytes.
@@ -89,15 +88,17 @@ fn end_after(executed: u64, more: u64) -> u64
 #[inline(always)]
 fn go_on(
     machine: &mut Machine,
-    tables: &Tables<'_>,
-    code: &DecodedCode<'_>,
+    program: &Program,
+    code: &[u8],
+    decoded: &DecodedCode<'_>,
     limit: u64,
 ) -> Option<Reaction>
-    requires runs { Runs (contents_of tables.now) machine.old }
-    requires code { code.now ≡ (contents_of tables.now).code }
-    ensures { GoesBy (contents_of tables.now) machine.old limit result machine.new }
+    requires runs { Runs program.now machine.old }
+    requires code { code.now ≡ program.now.code }
+    requires decoded { decoded.now ≡ program.now.code }
+    ensures { GoesBy program.now machine.old limit result machine.new }
 {
-    machine.go_on_until(tables, code, limit)
+    machine.go_on_until(program, code, decoded, limit)
 }
 
 /// Steps in which no process gives way, and the first that is ready is next, until one emits a message, no process is
@@ -105,21 +106,23 @@ fn go_on(
 /// something of others. They are those of the code, decoded.
 pub fn run(
     machine: &mut Machine,
-    tables: &Tables<'_>,
-    code: &DecodedCode<'_>,
+    program: &Program,
+    code: &[u8],
+    decoded: &DecodedCode<'_>,
     limit: u64,
 ) -> RunReport
-    requires runs { Runs (contents_of tables.now) machine.old }
-    requires code { code.now ≡ (contents_of tables.now).code }
-    ensures runs { Runs (contents_of tables.now) machine.new }
+    requires runs { Runs program.now machine.old }
+    requires code { code.now ≡ program.now.code }
+    requires decoded { decoded.now ≡ program.now.code }
+    ensures runs { Runs program.now machine.new }
     ensures message { HasMessage (has_emitted result.stop) machine.new }
-    ensures reaches { let m = contents_of tables.now in (w : World) → AgreesOn m machine.old w
+    ensures reaches { let m = program.now in (w : World) → AgreesOn m machine.old w
         → HasRunOn m w limit result (message_of (has_emitted result.stop) machine.new) (AgreesOn m machine.new) }
 {
     let start = machine.executed();
     let end = end_after(start, limit);
     'steps: while machine.executed() < end {
-        let Some(reaction) = go_on(machine, tables, code, end) else {
+        let Some(reaction) = go_on(machine, program, code, decoded, end) else {
             return report_of(machine, start, RunStop::AtLimit);
         };
         if let Some(stop) = stop_of(reaction) {

@@ -1,51 +1,43 @@
-use Rattle.std.proofs.Common.{◌≡◌, ◌<◌, ◌∙◌, ℕ, Option, None, Some, arith, rules, sym, subst}
-use Rattle.module_format.specs.Contents.{contents_of}
-use Rattle.link_runs.specs.declared.driving.Reaction.{Reaction}
+use Rattle.std.proofs.Common.{◌≡◌, ◌∙◌, None, arith, rules, sym, subst}
 use Rattle.accepted_runs.specs.Reacting.{HasMessage}
 use Rattle.kept_runs.specs.declared.running_on.RunReport.{RunReport}
 use Rattle.kept_runs.specs.declared.running_on.RunStop.TheVariants.{AtLimit}
-use Rattle.kept_runs.specs.GoingOn.{GoesBy}
 use Rattle.kept_runs.specs.RunningOn.{has_emitted, stop_by}
 use Rattle.kept_runs.proofs.RunningOn.{all_done, comes_nearer, has_message, has_not_stepped, no_less, reached_there}
 use Rattle.kept_runs.proofs.RunningOn.{runs_after, stepped_further, stepped_there, stops_as, told_as}
 use Rattle.kept_runs.proofs.moving.run.Goals as goal
 
 pub steps-init : goal.steps-init
-steps-init c = has_not_stepped (contents_of c.args.tables.now) c.args.machine.now c.end_after-end.result c.requires.runs
+steps-init c = has_not_stepped c.args.program.now c.args.machine.now c.end_after-end.result c.requires.runs
 
 pub report_of-requires : goal.report_of-requires
 report_of-requires c =
-    let m = contents_of c.args.tables.now in
+    let m = c.args.program.now in
     let start = c.args.machine.now in
     let end = c.end_after-end.result in
-    let less : c.steps.machine.counters.executed < end = search rules in
-    let goes = subst (λ (o : Option Reaction). GoesBy m c.steps.machine end o c.go_on.new.machine) c.in_default.is
-    c.go_on.ensures in
-    let still = stepped_there m start c.steps.machine end c.steps.invariant less c.go_on.new.machine goes in
+    let still = stepped_there m start c.steps.machine end c.steps.invariant (search rules) c.go_on.new.machine
+    c.go_on.result c.in_default.is c.go_on.ensures in
     let more = still.more in
     omega (arith, more, c.executed-start.ensures.value)
 
 pub returns-in_default-clause-runs : goal.returns-in_default-clause-runs
 returns-in_default-clause-runs c =
-    let m = contents_of c.args.tables.now in
+    let m = c.args.program.now in
     let start = c.args.machine.now in
     let end = c.end_after-end.result in
-    let less : c.steps.machine.counters.executed < end = search rules in
-    let goes = subst (λ (o : Option Reaction). GoesBy m c.steps.machine end o c.go_on.new.machine) c.in_default.is
-    c.go_on.ensures in
-    let still = stepped_there m start c.steps.machine end c.steps.invariant less c.go_on.new.machine goes in
+    let still = stepped_there m start c.steps.machine end c.steps.invariant (search rules) c.go_on.new.machine
+    c.go_on.result c.in_default.is c.go_on.ensures in
     still.runs
 
 pub returns-in_default-clause-reaches : goal.returns-in_default-clause-reaches
 returns-in_default-clause-reaches c w on =
-    let m = contents_of c.args.tables.now in
+    let m = c.args.program.now in
     let start = c.args.machine.now in
     let end = c.end_after-end.result in
-    let less : c.steps.machine.counters.executed < end = search rules in
-    let goes = subst (λ (o : Option Reaction). GoesBy m c.steps.machine end o c.go_on.new.machine) c.in_default.is
-    c.go_on.ensures in
-    let still = stepped_there m start c.steps.machine end c.steps.invariant less c.go_on.new.machine goes in
-    let reached = reached_there m start c.steps.machine end c.steps.invariant less c.go_on.new.machine goes in
+    let still = stepped_there m start c.steps.machine end c.steps.invariant (search rules) c.go_on.new.machine
+    c.go_on.result c.in_default.is c.go_on.ensures in
+    let reached = reached_there m start c.steps.machine end c.steps.invariant (search rules) c.go_on.new.machine
+    c.go_on.result c.in_default.is c.go_on.ensures in
     told_as m start c.go_on.new.machine c.args.limit w c.report_of.result AtLimit c.executed-start.result
     c.report_of.ensures c.executed-start.ensures.value
     (all_done m start c.go_on.new.machine end c.args.limit still reached
@@ -54,55 +46,46 @@ returns-in_default-clause-reaches c w on =
 
 pub report_of-requires-in-Some-stop_of : goal.report_of-requires-in-Some-stop_of
 report_of-requires-in-Some-stop_of c =
-    let m = contents_of c.args.tables.now in
+    let m = c.args.program.now in
     let start = c.args.machine.now in
     let end = c.end_after-end.result in
-    let less : c.steps.machine.counters.executed < end = search rules in
-    let goes = subst (λ (o : Option Reaction). GoesBy m c.steps.machine end o c.go_on.new.machine) c.in-Some.is
-    c.go_on.ensures in
-    let more = no_less m start c.steps.machine end c.steps.invariant less c.go_on.new.machine c.in-Some.reaction goes in
+    let more = no_less m start c.steps.machine end c.steps.invariant (search rules) c.go_on.new.machine
+    c.in-Some.reaction c.go_on.result c.in-Some.is c.go_on.ensures in
     omega (arith, more, c.executed-start.ensures.value)
 
 pub returns-in-Some-stop_of-clause-runs : goal.returns-in-Some-stop_of-clause-runs
 returns-in-Some-stop_of-clause-runs c =
-    let m = contents_of c.args.tables.now in
+    let m = c.args.program.now in
     let start = c.args.machine.now in
     let end = c.end_after-end.result in
-    let less : c.steps.machine.counters.executed < end = search rules in
-    let goes = subst (λ (o : Option Reaction). GoesBy m c.steps.machine end o c.go_on.new.machine) c.in-Some.is
-    c.go_on.ensures in
-    runs_after m start c.steps.machine end c.steps.invariant less c.go_on.new.machine c.in-Some.reaction goes
+    runs_after m start c.steps.machine end c.steps.invariant (search rules) c.go_on.new.machine
+    c.in-Some.reaction c.go_on.result c.in-Some.is c.go_on.ensures
 
 pub returns-in-Some-stop_of-clause-message : goal.returns-in-Some-stop_of-clause-message
 returns-in-Some-stop_of-clause-message c =
-    let m = contents_of c.args.tables.now in
+    let m = c.args.program.now in
     let start = c.args.machine.now in
     let end = c.end_after-end.result in
-    let less : c.steps.machine.counters.executed < end = search rules in
-    let goes = subst (λ (o : Option Reaction). GoesBy m c.steps.machine end o c.go_on.new.machine) c.in-Some.is
-    c.go_on.ensures in
     subst (λ (q : RunReport). HasMessage (has_emitted q.stop) c.go_on.new.machine)
     (sym c.report_of-in-Some-stop_of.ensures)
-    (has_message m start c.steps.machine end c.steps.invariant less c.go_on.new.machine c.in-Some.reaction goes
-    c.in-Some-stop_of.stop (sym c.stop_of.ensures ∙ c.in-Some-stop_of.is))
+    (has_message m start c.steps.machine end c.steps.invariant (search rules) c.go_on.new.machine
+    c.in-Some.reaction c.go_on.result c.in-Some.is c.go_on.ensures c.in-Some-stop_of.stop (sym c.stop_of.ensures ∙ c.in-Some-stop_of.is))
 
 pub returns-in-Some-stop_of-clause-reaches : goal.returns-in-Some-stop_of-clause-reaches
 returns-in-Some-stop_of-clause-reaches c w on =
-    let m = contents_of c.args.tables.now in
+    let m = c.args.program.now in
     let start = c.args.machine.now in
     let end = c.end_after-end.result in
-    let less : c.steps.machine.counters.executed < end = search rules in
-    let goes = subst (λ (o : Option Reaction). GoesBy m c.steps.machine end o c.go_on.new.machine) c.in-Some.is
-    c.go_on.ensures in
     told_as m start c.go_on.new.machine c.args.limit w c.report_of-in-Some-stop_of.result c.in-Some-stop_of.stop
     c.executed-start.result c.report_of-in-Some-stop_of.ensures c.executed-start.ensures.value
-    (stops_as m start c.steps.machine end c.steps.invariant less c.go_on.new.machine c.in-Some.reaction goes
+    (stops_as m start c.steps.machine end c.steps.invariant (search rules) c.go_on.new.machine
+    c.in-Some.reaction c.go_on.result c.in-Some.is c.go_on.ensures
     c.args.limit (omega (arith, c.end_after-end.ensures.low, c.executed-start.ensures.value)) w on
     c.in-Some-stop_of.stop (sym c.stop_of.ensures ∙ c.in-Some-stop_of.is))
 
 pub returns-clause-reaches : goal.returns-clause-reaches
 returns-clause-reaches c w on =
-    let m = contents_of c.args.tables.now in
+    let m = c.args.program.now in
     let start = c.args.machine.now in
     let end = c.end_after-end.result in
     told_as m start c.steps.machine c.args.limit w c.report_of-2.result AtLimit c.executed-start.result
@@ -114,22 +97,18 @@ returns-clause-reaches c w on =
 
 pub steps-smaller : goal.steps-smaller
 steps-smaller c =
-    let m = contents_of c.args.tables.now in
+    let m = c.args.program.now in
     let start = c.args.machine.now in
     let end = c.end_after-end.result in
-    let less : c.steps.machine.counters.executed < end = search rules in
-    let goes = subst (λ (o : Option Reaction). GoesBy m c.steps.machine end o c.go_on.new.machine) c.in-Some.is
-    c.go_on.ensures in
     let none : stop_by c.in-Some.reaction ≡ None = search rules in
-    comes_nearer m start c.steps.machine end c.steps.invariant less c.go_on.new.machine c.in-Some.reaction goes none
+    comes_nearer m start c.steps.machine end c.steps.invariant (search rules) c.go_on.new.machine
+    c.in-Some.reaction c.go_on.result c.in-Some.is c.go_on.ensures none
 
 pub steps-preserved : goal.steps-preserved
 steps-preserved c =
-    let m = contents_of c.args.tables.now in
+    let m = c.args.program.now in
     let start = c.args.machine.now in
     let end = c.end_after-end.result in
-    let less : c.steps.machine.counters.executed < end = search rules in
-    let goes = subst (λ (o : Option Reaction). GoesBy m c.steps.machine end o c.go_on.new.machine) c.in-Some.is
-    c.go_on.ensures in
     let none : stop_by c.in-Some.reaction ≡ None = search rules in
-    stepped_further m start c.steps.machine end c.steps.invariant less c.go_on.new.machine c.in-Some.reaction goes none
+    stepped_further m start c.steps.machine end c.steps.invariant (search rules) c.go_on.new.machine
+    c.in-Some.reaction c.go_on.result c.in-Some.is c.go_on.ensures none
