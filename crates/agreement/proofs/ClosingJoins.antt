@@ -5,7 +5,6 @@ use Rattle.std.proofs.lemmas.Bool.{cases_eq}
 use Rattle.std.specs.Prelude.{slice_set}
 use Rattle.small_laws.proofs.Options.{same_some}
 use Rattle.module_format.specs.Contents.{Contents, Par}
-use Rattle.machine_state.specs.declared.process.Exchange.{Exchange}
 use Rattle.machine_state.specs.declared.process.Mode.TheVariants.{Plain}
 use Rattle.machine_state.specs.declared.process.Task.{Task}
 use Rattle.machine_state.specs.JoinLookups.{opened_by}
@@ -15,15 +14,15 @@ use Rattle.machine_state.specs.Memory.{data_start}
 use Rattle.machine_state.specs.Roles.{opened_in}
 use Rattle.machine_state.specs.World.{World, Role, Join}
 use Rattle.machine_state.proofs.ChannelWaiters.{left_channel}
-use Rattle.machine_state.proofs.Lines.{got_set, got_other}
-use Rattle.world_laws.specs.Parked.{IsParked, IsAlternating, IsInside}
+use Rattle.machine_state.proofs.Lines.{got_other}
+use Rattle.world_laws.specs.Parked.{IsParked}
 use Rattle.world_laws.proofs.StepLeaves.{plain_is_outside}
 use Rattle.plain_machine.specs.PlainStep.{plain_word, plain_code_offset}
 use Rattle.agreement.specs.Agrees as agree
 use Rattle.agreement.specs.Agrees.{PlainMachine, Agrees}
 use Rattle.agreement.proofs.Dispatching.{code_word_is, none_matches}
 use Rattle.agreement.proofs.Names.{Names, ready_same, channel_same, outputs_same, inputs_same}
-use Rattle.agreement.proofs.Passing.{keeps_none}
+use Rattle.agreement.proofs.OneBecomes.{is_mine, is_other, messages_stay, alternations_stay}
 
 module _ (m : Contents) (w : World) (machine : PlainMachine) (agrees : Agrees m machine w)
     (none : w.queue.running ≡ None) (o : ℕ) (task : Task) (here : slice_get w.tasks o ≡ Some task) (j : Join)
@@ -56,21 +55,11 @@ module _ (m : Contents) (w : World) (machine : PlainMachine) (agrees : Agrees m 
     queue = record { running = Some o; ready = w.queue.ready };
   }
 
-  mine : slice_get tasks o ≡ Some later
-  mine = got_set w.tasks o task later here
-
-  is_mine : (q : ℕ) (t : Task) → o ≡ q → slice_get tasks q ≡ Some t → later ≡ t
-  is_mine q t same there =
-      same_some (slice_get tasks q) later t (subst (λ n. slice_get tasks n ≡ Some later) same mine) there
-
   abbrev Other : ℕ → Type 0
   Other q = o ≢ q
 
   known : (q : ℕ) → o ≢ q → slice_get tasks q ≡ slice_get w.tasks q
   known q differ = got_other w.tasks o q later differ
-
-  is_other : (q : ℕ) (t : Task) → o ≢ q → slice_get tasks q ≡ Some t → slice_get w.tasks q ≡ Some t
-  is_other q t differ there = sym (known q differ) ∙ there
 
   has : agree.HasRegisters after later.registers
   has = record {
@@ -85,26 +74,10 @@ module _ (m : Contents) (w : World) (machine : PlainMachine) (agrees : Agrees m 
   parked q t x = elim (cases_eq o q) [
     | inl same ↦ absurd (x.aside (ap Some same))
     | inr differ ↦ agrees.parked q t (record {
-      here = is_other q t differ x.here;
+      here = is_other w.tasks o task later here q t differ x.here;
       live = x.live;
       aside = λ also. let z : None ≡ Some q = sym none ∙ also in cc;
     })
-  ]
-
-  messages : (q : ℕ) (t : Task) (e : Exchange) → slice_get tasks q ≡ Some t → agree.waits_inside t.condition ≡ Some e
-      → agree.KeepsMessage machine.memory t.registers.workspace e
-  messages q t e there waits = elim (cases_eq o q) [
-    | inl same ↦ keeps_none machine.memory t.registers.workspace t.condition
-        (sym (ap (λ (t : Task). agree.waits_inside t.condition) (is_mine q t same there))) e waits
-    | inr differ ↦ agrees.messages q t e (is_other q t differ there) waits
-  ]
-
-  alternations : (q : ℕ) (t : Task) → IsAlternating w' q t
-      → agree.KeepsAlternation machine.memory t.registers.workspace t.condition t.mode
-  alternations q t x = elim (cases_eq o q) [
-    | inl same ↦ absurd (plain_is_outside Plain refl
-        (subst (λ (t : Task). IsInside t.mode) (sym (is_mine q t same x.here)) x.inside))
-    | inr differ ↦ agrees.alternations q t (record { here = is_other q t differ x.here; inside = x.inside })
   ]
 
   pub closes_agree : Agrees m after w'
@@ -113,14 +86,15 @@ module _ (m : Contents) (w : World) (machine : PlainMachine) (agrees : Agrees m 
     running = refl;
     registers = λ q t runs there.
         subst (λ (t : Task). agree.HasRegisters after t.registers)
-        (is_mine q t (same_some (Some o) o q refl runs) there) has;
+        (is_mine w.tasks o task later here q t (same_some (Some o) o q refl runs) there) has;
     ready = agrees.ready ∙ ready_same w.tasks tasks Other known w.queue w.channels w.links names;
     parked = parked;
     channels = λ k c there.
         let was = left_channel o w.channels k c there in
         agrees.channels k c was ∙ channel_same w.tasks tasks Other known w.queue w.channels w.links names k c was;
-    messages = messages;
-    alternations = alternations;
+    messages = messages_stay m w machine agrees o task later here refl;
+    alternations = λ q t x. alternations_stay m w machine agrees o task later here (plain_is_outside Plain refl) q t
+        x.here x.inside;
     outputs = agrees.outputs ∙ outputs_same w.tasks tasks Other known w.queue w.channels w.links names;
     inputs = agrees.inputs ∙ inputs_same w.tasks tasks Other known w.queue w.channels w.links names;
     joins = λ q i other opened at. agrees.joins q i other (opens q i opened) at;

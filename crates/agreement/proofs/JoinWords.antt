@@ -1,18 +1,17 @@
 -- The word that counts the members of an open join is set, and its record: no process may write that word.
 use Rattle.std.proofs.Common.{◌≡◌, ◌≢◌, ℕ, ◌+◌, ◌*◌, ◌<◌, ◌≤◌, ◌⊎◌, inl, inr, ℤ, pos, true, List, length}
-use Rattle.std.proofs.Common.{FitsSigned, Option, Some, None, refl, ap, ◌∙◌, sym, subst, arith, slice_get}
+use Rattle.std.proofs.Common.{FitsSigned, Option, Some, None, ap, ◌∙◌, sym, subst, arith, slice_get}
 use Rattle.std.specs.Int.{w32}
 use Rattle.std.specs.Option.{unwrap_or}
 use Rattle.module_format.specs.Contents.{Contents, Par}
 use Rattle.machine_state.specs.declared.process.Channel.{Channel}
 use Rattle.machine_state.specs.Apart.{AllApart, block_span, data_word}
-use Rattle.machine_state.specs.Holding.{Holding, nothing, may_write}
+use Rattle.machine_state.specs.Holding.{may_write}
 use Rattle.machine_state.specs.JoinLookups.{opened_by}
 use Rattle.machine_state.specs.LocalStep.{address}
 use Rattle.machine_state.specs.Memory.{Memory, place_of, local_address, byte_at}
 use Rattle.machine_state.specs.Roles.{opened_in}
-use Rattle.machine_state.specs.World.{World, Role, Join, held, holding_at}
-use Rattle.machine_state.proofs.Claims.{written_is_read}
+use Rattle.machine_state.specs.World.{World, Role, Join, holding_at}
 use Rattle.machine_state.proofs.EvenWords.{next_place}
 use Rattle.machine_state.proofs.Reading.{word_at-with_word}
 use Rattle.machine_state.proofs.Roles.{told_of}
@@ -22,22 +21,19 @@ use Rattle.plain_machine.specs.PlainStep.{HasWord, plain_word, with_plain_word}
 use Rattle.agreement.specs.Agrees as agree
 use Rattle.agreement.specs.Agrees.{PlainMachine, Agrees}
 use Rattle.agreement.proofs.ChannelWords.{word_kept, plain_kept, parked_kept, messages_kept, alternations_kept}
-use Rattle.agreement.proofs.Elsewhere.{Owns}
+use Rattle.agreement.proofs.Elsewhere.{Owns, role_reads}
 use Rattle.agreement.proofs.Leaving.{blank_matches}
+use Rattle.agreement.proofs.StaysKept.{join_stays}
 
 -- no process may write the block of an open join
 pub nobody_writes_block : (w : World) → AllApart w.roles w.channels → (o : ℕ) (j : Join) → opened_by w o ≡ Some j
     → (q x : ℕ) → place_of j.block ≤ x → x < place_of j.block + 8 → may_write (holding_at w.roles q) x ≡ true → ⊥
-nobody_writes_block w apart o j is_open q x low high =
-    let r = told_of (λ (r : Role). r.opened) w.roles o j is_open in on r.0 r.1 r.2 (slice_get w.roles q) refl
-  where
-    on : (r : Role) → slice_get w.roles o ≡ Some r → r.opened ≡ Some j → (s : Option Role) → slice_get w.roles q ≡ s
-        → may_write (elim s as (λ o. Holding) [ None ↦ nothing | Some role ↦ held role ]) x ≡ true → ⊥
-    on r here opened None is own = cc
-    on r here opened (Some s) is own =
-        let read = written_is_read (held s) x own in
-        let free = apart.blocks o q r s j here opened is x (covers_there (block_span j) x low high) in
-        cc
+nobody_writes_block w apart o j is_open q x low high own =
+    let r = told_of (λ (r : Role). r.opened) w.roles o j is_open in
+    let s = role_reads w.roles q x own in
+    let read = s.2 in
+    let free = apart.blocks o q r.0 s.0 j r.1 r.2 s.1 x (covers_there (block_span j) x low high) in
+    cc
 
 -- ---- word 1 of the block has this value then, and the join this record
 
@@ -95,19 +91,9 @@ module _ (m : Contents) (w : World) (owns : Owns w) (machine : PlainMachine) (ag
 
   other_join : (q : ℕ) (i : Join) (par : Par) → o ≢ q → opened_by w q ≡ Some i → slice_get m.pars i.row ≡ Some par
       → agree.KeepsJoin m n i par
-  other_join q i par differ opened at =
-      let was = agrees.joins q i par opened at in
-      let next = next_place i.block (owns.blocks q i opened) in
-      record {
-        successor = ap address (kept i.block (λ x inside.
-            let low = inside.0 in
-            let high = inside.1 in
-            block_apart q i differ opened x low (omega (arith, high)))) ∙ was.successor;
-        count = ap (λ (v : ℤ). address v + i.started) (kept (local_address i.block (pos 1)) (λ x inside.
-            let low = inside.0 in
-            let high = inside.1 in
-            block_apart q i differ opened x (omega (arith, low, next)) (omega (arith, high, next)))) ∙ was.count;
-      }
+  other_join q i par differ opened at = join_stays machine.memory n m i par (owns.blocks q i opened) (λ a inside.
+      kept a (λ x one. let low = inside x one in block_apart q i differ opened x low.0 low.1))
+      (agrees.joins q i par opened at)
 
   this_join : (par : Par) → slice_get m.pars j.row ≡ Some par → agree.KeepsJoin m n k par
   this_join par at = record {

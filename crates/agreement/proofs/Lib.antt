@@ -1,7 +1,10 @@
 pub mod Matching
 pub mod StepsAgree
+pub mod StaysKept
 pub mod Elsewhere
+pub mod Running
 pub mod Passing
+pub mod OneBecomes
 pub mod GoingOn
 pub mod Dispatching
 pub mod Leaving

@@ -1,21 +1,20 @@
 -- A process that waits for a message inside is ready: nothing else changes but the ready list.
-use Rattle.std.proofs.Common.{◌≡◌, ◌≢◌, ℕ, inl, inr, ◌∷◌, [], ◌++◌, List, map}
+use Rattle.std.proofs.Common.{refl, ◌≡◌, ◌≢◌, ℕ, inl, inr, ◌∷◌, [], ◌++◌, List, map}
 use Rattle.std.proofs.Common.{Option, Some, None, ap, ◌∙◌, sym, subst, slice_get}
 use Rattle.std.proofs.lemmas.Bool.{cases_eq}
 use Rattle.std.proofs.lemmas.List.{map-append}
 use Rattle.std.specs.Prelude.{slice_set}
-use Rattle.small_laws.proofs.Options.{same_some}
 use Rattle.module_format.specs.Contents.{Contents}
 use Rattle.machine_state.specs.declared.link.InputLink.{InputLink}
 use Rattle.machine_state.specs.declared.process.Condition.TheVariants.{Ready}
-use Rattle.machine_state.specs.declared.process.Exchange.{Exchange}
 use Rattle.machine_state.specs.declared.process.Task.{Task}
 use Rattle.machine_state.specs.World.{World}
-use Rattle.machine_state.proofs.Lines.{got_set, got_other}
-use Rattle.world_laws.specs.Parked.{IsParked, IsAlternating, IsInside}
+use Rattle.machine_state.proofs.Lines.{got_set}
+use Rattle.world_laws.specs.Parked.{IsParked, IsInside}
 use Rattle.agreement.specs.Agrees as agree
 use Rattle.agreement.specs.Agrees.{PlainMachine, Agrees, workspace_in}
-use Rattle.agreement.proofs.Passing.{mapped_alike, keeps_none}
+use Rattle.agreement.proofs.OneBecomes.{is_mine, is_other, messages_stay, alternations_stay}
+use Rattle.agreement.proofs.Passing.{mapped_alike}
 use Rattle.agreement.proofs.Waking.{same_workspaces, same_outputs, same_input, same_channel}
 
 module _ (m : Contents) (w : World) (machine : PlainMachine) (agrees : Agrees m machine w) (q : ℕ) (task : Task)
@@ -37,41 +36,23 @@ module _ (m : Contents) (w : World) (machine : PlainMachine) (agrees : Agrees m 
     mine : slice_get tasks q ≡ Some later
     mine = got_set w.tasks q task later was.here
 
-    is_mine : (r : ℕ) (t : Task) → q ≡ r → slice_get tasks r ≡ Some t → later ≡ t
-    is_mine r t same there =
-        same_some (slice_get tasks r) later t (subst (λ n. slice_get tasks n ≡ Some later) same mine) there
-
-    is_other : (r : ℕ) (t : Task) → q ≢ r → slice_get tasks r ≡ Some t → slice_get w.tasks r ≡ Some t
-    is_other r t differ there = sym (got_other w.tasks q r later differ) ∙ there
-
     registers : (r : ℕ) (t : Task) → w.queue.running ≡ Some r → slice_get tasks r ≡ Some t
         → agree.HasRegisters after t.registers
     registers r t runs there =
         let differ : q ≢ r = λ same. was.aside (runs ∙ ap Some (sym same)) in
-        let x = agrees.registers r t runs (is_other r t differ there) in
+        let x = agrees.registers r t runs (is_other w.tasks q task later was.here r t differ there) in
         record { workspace = x.workspace; at = x.at; operand = x.operand; stack = x.stack }
 
     parked : (r : ℕ) (t : Task) → IsParked w' r t → agree.KeepsOffset m machine.memory t.registers
     parked r t x = elim (cases_eq q r) [
-      | inl same ↦ subst (λ (t : Task). agree.KeepsOffset m machine.memory t.registers) (is_mine r t same x.here)
-          (agrees.parked q task was)
+      | inl same ↦ subst (λ (t : Task). agree.KeepsOffset m machine.memory t.registers)
+          (is_mine w.tasks q task later was.here r t same x.here) (agrees.parked q task was)
       | inr differ ↦
-          agrees.parked r t (record { here = is_other r t differ x.here; live = x.live; aside = x.aside })
-    ]
-
-    messages : (r : ℕ) (t : Task) (e : Exchange) → slice_get tasks r ≡ Some t → agree.waits_inside t.condition ≡ Some e
-        → agree.KeepsMessage machine.memory t.registers.workspace e
-    messages r t e there waits = elim (cases_eq q r) [
-      | inl same ↦ keeps_none machine.memory t.registers.workspace t.condition
-          (sym (ap (λ (t : Task). agree.waits_inside t.condition) (is_mine r t same there))) e waits
-      | inr differ ↦ agrees.messages r t e (is_other r t differ there) waits
-    ]
-
-    alternations : (r : ℕ) (t : Task) → IsAlternating w' r t
-        → agree.KeepsAlternation machine.memory t.registers.workspace t.condition t.mode
-    alternations r t x = elim (cases_eq q r) [
-      | inl same ↦ absurd (outside (subst (λ (t : Task). IsInside t.mode) (sym (is_mine r t same x.here)) x.inside))
-      | inr differ ↦ agrees.alternations r t (record { here = is_other r t differ x.here; inside = x.inside })
+          agrees.parked r t (record {
+            here = is_other w.tasks q task later was.here r t differ x.here;
+            live = x.live;
+            aside = x.aside;
+          })
     ]
 
     workspace_is : workspace_in tasks q ≡ task.registers.workspace
@@ -80,7 +61,7 @@ module _ (m : Contents) (w : World) (machine : PlainMachine) (agrees : Agrees m 
     ready_is : after.ready ≡ map (workspace_in tasks) (w.queue.ready ++ q ∷ [])
     ready_is =
         ap (λ (ready : List ℕ). ready ++ task.registers.workspace ∷ [])
-        (agrees.ready ∙ same_workspaces w q task was.here Ready task.mode w.queue.ready)
+        (agrees.ready ∙ same_workspaces w q task was.here later refl w.queue.ready)
         ∙ (ap (λ (a : ℕ). map (workspace_in tasks) w.queue.ready ++ a ∷ []) (sym workspace_is)
         ∙ sym (map-append (workspace_in tasks) w.queue.ready (q ∷ [])))
 
@@ -92,12 +73,12 @@ module _ (m : Contents) (w : World) (machine : PlainMachine) (agrees : Agrees m 
       ready = ready_is;
       parked = parked;
       channels = λ k c there. agrees.channels k c there
-          ∙ same_channel w q task was.here Ready task.mode c.waiting c.enabled;
-      messages = messages;
-      alternations = alternations;
-      outputs = agrees.outputs ∙ same_outputs w q task was.here Ready task.mode w.links.outputs;
+          ∙ same_channel w q task was.here later refl c.waiting c.enabled;
+      messages = messages_stay m w machine agrees q task later was.here refl;
+      alternations = λ r t x. alternations_stay m w machine agrees q task later was.here outside r t x.here x.inside;
+      outputs = agrees.outputs ∙ same_outputs w q task was.here later refl w.links.outputs;
       inputs = agrees.inputs ∙ mapped_alike (agree.plain_input w.tasks) (agree.plain_input tasks) w.links.inputs
-          (λ k l there. same_input w q task was.here Ready task.mode l (λ r is. no_link k l r there is));
+          (λ k l there. same_input w q task was.here later refl l (λ r is. no_link k l r there is));
       joins = agrees.joins;
       counters = agrees.counters;
     }
