@@ -45,9 +45,9 @@ def number_entry(word, span, low, high):
     return struct.pack("<iIBii", word, span, NUMBER, low, high)
 
 
-def pointer_entry(word, low, high, step):
-    """An entry that says of a word that it is the address of a byte of the frame."""
-    return struct.pack("<iIBHiiB", word, 1, POINTER, 0, low, high, step)
+def pointer_entry(word, low, high, step, span=1):
+    """An entry that says of a word, or of so many, that it is the address of a byte of the frame."""
+    return struct.pack("<iIBHiiB", word, span, POINTER, 0, low, high, step)
 
 
 def label_row(offset, context, number, entries):

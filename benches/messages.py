@@ -3,6 +3,7 @@
 import struct
 
 from channels import BOTH, CHANNEL_PARAMETER
+from comparisons import NUMBER_OF_LABELS, after, loop_entry, pointer_to
 from inputs import (
     FRAME_HI, FRAME_LO, GREATEST, LEAST, MAX_BRANCHES, MAX_CODE_2, MAX_DATA_WORDS, MAX_LABELS, STOP_PROCESS, UNKNOWN,
     backwards, each_word, filled, label_row, number_entry,
@@ -12,6 +13,7 @@ from modules import assembled, code, module
 MAX_GUARDS = 64
 ALTERNATIONS = 375  # of so many guards: about as many as code may have
 WORKSPACE = -8  # that of the alternations in a procedure: below its return address
+KEPT = (WORKSPACE - 3, WORKSPACE + 1)  # the words that an alternation takes, and where they end
 MESSAGE = 4_096  # bytes
 
 
@@ -41,20 +43,57 @@ def label_at_depth(offset, number, entries):
     return head + b"".join(entries)
 
 
-def with_wide_ends():
-    """Such alternations in the largest frame, one after the other. The label at which they all go on has an entry for
-    each word."""
+def ending_at_one_label(known, wanted, changes=""):
+    """Such alternations in the largest frame, one after the other, each once words are changed, from a label with the
+    entries that are known to one label with those that are wanted."""
     blocks = {"start": 2 * STOP_PROCESS}
-    blocks |= {f"alternation{number}": alternation("end") for number in range(ALTERNATIONS)}
+    blocks |= {f"alternation{number}": changes + alternation("end") for number in range(ALTERNATIONS)}
     body, offsets = assembled({**blocks, "end": STOP_PROCESS})
-    kept = (WORKSPACE - 3, WORKSPACE + 1)  # words that an alternation takes
-    known = [number_entry(FRAME_LO, kept[0] - FRAME_LO, 0, 1), number_entry(kept[1], FRAME_HI - kept[1], 0, 1)]
-    wanted = each_word(FRAME_LO, kept[0]) + each_word(kept[1], FRAME_HI)
     names = [name for name in blocks if name != "start"]
-    labels = [label_at_depth(offsets[name], 1_000, known) for name in names]
+    labels = [label_at_depth(offsets[name], NUMBER_OF_LABELS, known) for name in names]
     labels.append(label_at_depth(offsets["end"], 2, wanted))
     procedure = struct.pack("<IiiQH", 2, FRAME_LO, FRAME_HI, 2, 0)
     return module(body, version=2, procedures=[procedure], labels=labels)
+
+
+def with_wide_ends():
+    """Such alternations, one after the other. The label at which they all go on has an entry for each word."""
+    known = [number_entry(FRAME_LO, KEPT[0] - FRAME_LO, 0, 1), number_entry(KEPT[1], FRAME_HI - KEPT[1], 0, 1)]
+    return ending_at_one_label(known, each_word(FRAME_LO, KEPT[0]) + each_word(KEPT[1], FRAME_HI))
+
+
+def numbers_but_for_pointer(low, high, most=FRAME_HI - FRAME_LO):
+    """Entries that say of the words that an alternation does not take that they are such numbers, but for the pointer
+    in word 1. None is of more words than `most`."""
+    spans = [(FRAME_LO, KEPT[0]), (KEPT[1], 1), (2, FRAME_HI)]
+    return [
+        number_entry(word, min(most, end - word), low, high)
+        for first, end in spans
+        for word in range(first, end, most)
+    ]
+
+
+def behind_stores(known, wanted, number):
+    """Such alternations, each behind a store of this number through the pointer in word 1 to any word after it."""
+    changes = f"ldc {number}, ldl {1 - WORKSPACE}, stnl 0, "
+    return ending_at_one_label(after([pointer_to(range(2, FRAME_HI)), *known]), wanted, changes)
+
+
+def with_ends_behind_stores():
+    """Alternations behind stores, whose labels have one entry for all that they say of numbers."""
+    numbers = numbers_but_for_pointer(LEAST, GREATEST)
+    return behind_stores(numbers, numbers, 5)
+
+
+def with_ends_at_loops():
+    """The same where the label at which they go on has loops, which are entered: the words are constants before, by
+    some 2,300 entries in each label."""
+    loops = [
+        loop_entry(word, 3, 3, 0)
+        for word in range(FRAME_LO, FRAME_HI, 2)
+        if not KEPT[0] - 1 <= word < KEPT[1] and word != 0
+    ]
+    return behind_stores(numbers_but_for_pointer(3, 3, most=14), loops, 3)
 
 
 def with_long_messages():
