@@ -201,7 +201,7 @@ pub extern "C" fn tpm_step(
     let Some(mut run) = machine.take(alloc) else {
         return NOT_LOADED;
     };
-    *effect = effect_of(run.advance(alloc, event));
+    *effect = effect_of(run.advance(event));
     machine.put(run);
     ACCEPTED
 }

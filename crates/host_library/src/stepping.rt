@@ -14,7 +14,6 @@ use crate::failure::HostFailure;
 use certificate::Module;
 use kept_runs::KeptRun;
 use machine_state::Link;
-use module_format::read;
 use std::alloc::Global;
 use verifier::{not_both, verify};
 
@@ -28,8 +27,7 @@ pub fn loaded_run(alloc: Global, bytes: &[u8]) -> Result<Box<KeptRun>, HostFailu
     not_both();
     let module = Module::read(alloc, bytes)?;
     verify(alloc, &module)?;
-    let (tables, _places) = read(alloc, bytes)?;
-    let run = KeptRun::load(alloc, tables)?;
+    let run = KeptRun::load(alloc, module.tables())?;
     Ok(Box::new(alloc, run)?)
 }
 

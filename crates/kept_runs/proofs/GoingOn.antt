@@ -10,7 +10,7 @@ use Rattle.machine_state.specs.declared.instruction.Instruction.{Instruction}
 use Rattle.machine_state.specs.declared.instruction.Instruction.TheVariants as instructions
 use Rattle.machine_state.specs.declared.op.Op.TheVariants as ops
 use Rattle.machine_state.specs.declared.process.Task.{Task}
-use Rattle.machine_state.specs.Happens.{idle, ran, turn, happens}
+use Rattle.machine_state.specs.Happens.{ran, turn}
 use Rattle.machine_state.specs.Instructions.{instruction_of}
 use Rattle.machine_state.specs.Memory.{data_start}
 use Rattle.machine_state.specs.World.{World, Counters}

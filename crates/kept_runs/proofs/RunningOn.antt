@@ -1,15 +1,14 @@
 -- A run that goes on by plain Steps, in each world that the machine agreed with.
-use Rattle.std.proofs.Common.{◌≡◌, ℕ, zero, suc, ◌+◌, ◌-◌, ◌<◌, ◌≤◌, ◌^◌, ltb, Bool, false, true, Option, Some, None, Result, Ok}
+use Rattle.std.proofs.Common.{◌≡◌, ℕ, zero, suc, ◌+◌, ◌-◌, ◌<◌, ◌≤◌, ◌^◌, ltb, Bool, false, true, Option, Some, None, Ok}
 use Rattle.std.proofs.Common.{ap, arith, refl, subst, sym, ◌∙◌}
 use Rattle.std.proofs.lemmas.Bool.{ltb-true, ltb-false}
 use Rattle.module_format.specs.Contents.{Contents}
-use Rattle.machine_state.specs.declared.link.Link.{Link}
 use Rattle.machine_state.specs.World.{World, Counters}
-use Rattle.machine_state.specs.Happens.{Effect, ran, idle, emitted, taken, kept, busy, acknowledged, ignored, turn}
-use Rattle.machine_state.specs.Happens.{happens, most_executed}
+use Rattle.machine_state.specs.Happens.{ran, emitted, taken, kept, busy, acknowledged, ignored, turn}
+use Rattle.machine_state.specs.Happens.{happens}
 use Rattle.machine_state.proofs.EventLaws.{events_count_bytes}
 use Rattle.link_runs.specs.FirstInFirstOut.{plain_step}
-use Rattle.link_runs.specs.Driving.{HasReacted, Quietly}
+use Rattle.link_runs.specs.Driving.{HasReacted}
 use Rattle.link_runs.specs.declared.driving.Reaction.{Reaction}
 use Rattle.link_runs.specs.declared.driving.Reaction.TheVariants as reactions
 use Rattle.link_runs.proofs.PlainSteps.{answers_as_a_step, idle_stays, one_more_byte}
@@ -17,7 +16,7 @@ use Rattle.agreement.specs.Agrees.{PlainMachine}
 use Rattle.accepted_runs.specs.Reacting.{message_of, HasMessage, is_sent}
 use Rattle.accepted_runs.specs.Running.{AgreesOn, Runs}
 use Rattle.accepted_runs.proofs.NeverAtFault.{below_most, rests}
-use Rattle.kept_runs.specs.GoingOn.{EndsByStep, EndsThere, GoesBy, GoesTo, StopsAfter}
+use Rattle.kept_runs.specs.GoingOn.{GoesBy, GoesTo, StopsAfter}
 use Rattle.kept_runs.specs.RunningOn.{HasRunOn, RunsQuietly, StopsWithin, completed_in, has_emitted, is_stop, stop_by}
 use Rattle.kept_runs.specs.declared.running_on.RunReport.{RunReport}
 use Rattle.kept_runs.specs.declared.running_on.RunStop.{RunStop}
