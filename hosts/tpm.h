@@ -63,8 +63,7 @@ struct tpm_sizes {
     size_t memory;
     /* Its code, decoded. */
     size_t decoded;
-    /* All else: the code once more, and what it is at the moment, at most 512 bytes. What the allocator adds to each
-       block is not counted. */
+    /* All else: what it is at the moment, at most 512 bytes. What the allocator adds to each block is not counted. */
     size_t record;
     /* The most instruction bytes that any run of it executes. */
     uint64_t budget;

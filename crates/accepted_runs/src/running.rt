@@ -15,7 +15,7 @@ use plain_machine::DecodedCode;
 use plain_run::Program;
 use std::alloc::{AllocError, Global};
 use std::convert::Infallible;
-use std::marker::Model;
+use std::marker::{Model, PhantomData};
 use verifier::Verified;
 
 /// An accepted module that runs on the plain machine. No event is at fault, and none allocates: all memory is
@@ -23,10 +23,10 @@ use verifier::Verified;
 #[derive(Drop)]
 pub struct Run<'a> {
     program: Program,
-    code: &'a [u8],
-    decoded: DecodedCode<'a>,
+    decoded: DecodedCode,
     machine: plain_run::Machine,
     has_sent: bool,
+    verified: PhantomData<&'a Verified<'a>>,
 }
 
 impl<'a> Model for Run<'a> {
@@ -43,7 +43,7 @@ impl<'a> Model for Run<'a> {
     } };
 
     ghost invariant = { λ r. Runs r.program r.machine × HasMessage r.has_sent r.machine
-        × (r.code.now ≡ r.program.code) × (r.decoded ≡ r.program.code) };
+        × (r.decoded ≡ r.program.code) };
 }
 
 /// Each event is one that can happen: what arrives is a byte.
@@ -83,15 +83,15 @@ impl<'a> Run<'a> {
         ensures shows { IfOk result (λ r. Shows r (loaded verified.now)) }
     {
         let tables = verified.module().tables();
-        let decoded = DecodedCode::of(alloc, tables.code)?;
+        let decoded = DecodedCode::of(alloc, tables)?;
         let machine = plain_run::Machine::load(alloc, tables)?;
         let program = Program::of(tables);
         Ok(Run {
             program,
-            code: tables.code,
             decoded,
             machine,
             has_sent: false,
+            verified: PhantomData,
         })
     }
 
@@ -103,7 +103,7 @@ impl<'a> Run<'a> {
             → HasReacted self.old.contents w event result self.new.last (Shows self.new) }
     {
         can_happen(event);
-        let reaction = self.machine.apply(&self.program, self.code, event);
+        let reaction = self.machine.apply(&self.program, event);
         self.has_sent = has_sent(reaction);
         reaction
     }
@@ -114,7 +114,7 @@ impl<'a> Run<'a> {
     fn go_on(&mut self) -> Reaction
         ensures { HasGoneAndReacted self.old result self.new }
     {
-        let done = self.machine.go_on(&self.program, self.code, &self.decoded);
+        let done = self.machine.go_on(&self.program, &self.decoded);
         self.has_sent = has_sent(done);
         done
     }

@@ -1,5 +1,5 @@
 -- How many bytes a machine takes.
-use Rattle.std.specs.Prelude.{◌≡◌, ◌+◌, ◌*◌, length}
+use Rattle.std.specs.Prelude.{◌≡◌, ◌*◌, length}
 use Rattle.module_format.specs.Contents.{Contents}
 use Rattle.machine_state.specs.World.{loaded_memory}
 use Rattle.host_library.specs.declared.measuring.HostSizes.{HostSizes}
@@ -9,5 +9,5 @@ use Rattle.host_library.specs.declared.measuring.TheConstants.{RUN_SIZE}
 pub record AreSizes (sizes : HostSizes) (m : Contents) : Type 0 where
   pub memory : sizes.memory ≡ length (loaded_memory m)
   pub decoded : sizes.decoded ≡ 8 * length m.code
-  pub beside : sizes.«record» ≡ RUN_SIZE + length m.code
+  pub beside : sizes.«record» ≡ RUN_SIZE
   pub budget : sizes.budget ≡ m.budget

@@ -227,7 +227,7 @@ pub extern "C" fn tpm_run(
     let Some(mut run) = machine.take(alloc) else {
         return NOT_LOADED;
     };
-    *progress = progress_of(run.run(alloc, limit));
+    *progress = progress_of(run.run(limit));
     machine.put(run);
     ACCEPTED
 }

@@ -32,7 +32,7 @@ pub struct HostSizes {
     pub budget: u64,
 }
 
-/// What a run keeps beside its memory, its decoded code and its code.
+/// What a run keeps beside its memory and its decoded code.
 const RUN_SIZE: usize = size_of::<KeptRun>();
 
 const _: () = prove!(size_of::<KeptRun>() <= 512);
@@ -47,7 +47,7 @@ fn sizes_in(tables: &Tables) -> HostSizes
     HostSizes {
         memory: 4 * tables.data_words as usize + code + padding + tables.constants.len(),
         decoded: code * size_of::<DecodedInstruction>(),
-        record: RUN_SIZE + code,
+        record: RUN_SIZE,
         budget: tables.budget,
     }
 }

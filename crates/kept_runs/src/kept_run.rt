@@ -15,19 +15,17 @@ use crate::running_on::RunReport;
 use link_runs::Reaction;
 use machine_state::{Event, Link};
 use module_format::Tables;
-use plain_machine::{DecodedCode, DecodedInstruction};
+use plain_machine::DecodedCode;
 use plain_run::Program;
 use std::alloc::{AllocError, Global};
 use std::marker::Model;
-use std::mem::replace;
 
 /// An accepted module that runs on the plain machine. It borrows nothing, no event is at fault, and none allocates: all
 /// memory is allocated when the module is loaded.
 #[derive(Drop)]
 pub struct KeptRun {
     program: Program,
-    code: Vec<u8>,
-    entries: Vec<DecodedInstruction>,
+    decoded: DecodedCode,
     machine: plain_run::Machine,
     has_sent: bool,
 }
@@ -36,7 +34,6 @@ impl Model for KeptRun {
     ghost use Rattle.std.specs.Prelude.{◌≡◌};
     ghost use Rattle.accepted_runs.specs.Running.{PlainExecution, Runs};
     ghost use Rattle.accepted_runs.specs.Reacting.{message_of, HasMessage};
-    ghost use Rattle.plain_machine.specs.Sequences.{AreEntries};
 
     ghost Value = { PlainExecution };
 
@@ -47,7 +44,7 @@ impl Model for KeptRun {
     } };
 
     ghost invariant = { λ r. Runs r.program r.machine × HasMessage r.has_sent r.machine
-        × (r.code.items ≡ r.program.code) × AreEntries r.program.code r.entries.items };
+        × (r.decoded ≡ r.program.code) };
 }
 
 impl KeptRun {
@@ -63,14 +60,11 @@ impl KeptRun {
         ensures shows { IfOk result (λ r. Shows r (loaded (contents_of tables.now))) }
     {
         let machine = plain_run::Machine::load(alloc, tables)?;
-        let decoded = DecodedCode::of(alloc, tables.code)?;
-        let entries = decoded.into_entries();
-        let code = Vec::from_slice(alloc, tables.code)?;
+        let decoded = DecodedCode::of(alloc, tables)?;
         let program = Program::of(tables);
         Ok(KeptRun {
             program,
-            code,
-            entries,
+            decoded,
             machine,
             has_sent: false,
         })
@@ -83,7 +77,7 @@ impl KeptRun {
         ensures reacts { (w : World) → Shows self.old w
             → HasReacted self.old.contents w event result self.new.last (Shows self.new) }
     {
-        let reaction = advance(&mut self.machine, &self.program, &self.code, event);
+        let reaction = advance(&mut self.machine, &self.program, event);
         self.has_sent = has_sent(reaction);
         reaction
     }
@@ -91,21 +85,12 @@ impl KeptRun {
     /// Steps in which no process gives way, and the first that is ready is next, until one emits a message, no process
     /// is running, or so many bytes are executed: then after the first that completes a loop's end, a call or what asks
     /// something of others.
-    pub fn run(&mut self, alloc: Global, limit: u64) -> RunReport
+    pub fn run(&mut self, limit: u64) -> RunReport
         ensures contents { self.new.contents ≡ self.old.contents }
         ensures reaches { (w : World) → Shows self.old w
             → HasRunOn self.old.contents w limit result self.new.last (Shows self.new) }
     {
-        let entries = replace(&mut self.entries, Vec::new(alloc));
-        let decoded = DecodedCode::with_entries(&self.code, entries);
-        let report = run(
-            &mut self.machine,
-            &self.program,
-            &self.code,
-            &decoded,
-            limit,
-        );
-        self.entries = decoded.into_entries();
+        let report = run(&mut self.machine, &self.program, &self.decoded, limit);
         self.has_sent = has_emitted(report.stop);
         report
     }

@@ -53,16 +53,15 @@ fn stop_of(reaction: Reaction) -> Option<RunStop>
 
 /// One event, and what it did. In each world that the machine agrees with it is no fault, this is its effect, and the
 /// machine agrees with the world after it.
-pub fn advance(machine: &mut Machine, program: &Program, code: &[u8], event: Event) -> Reaction
-    requires runs { Runs program.now machine.old }
-    requires code { code.now ≡ program.now.code }
+pub fn advance(machine: &mut Machine, program: &Program, event: Event) -> Reaction
+    requires { Runs program.now machine.old }
     ensures runs { Runs program.now machine.new }
     ensures message { HasMessage (is_sent result) machine.new }
     ensures reacts { let m = program.now in (w : World) → AgreesOn m machine.old w
         → HasReacted m w event result (message_of (is_sent result) machine.new) (AgreesOn m machine.new) }
 {
     can_happen(event);
-    machine.apply(program, code, event)
+    machine.apply(program, event)
 }
 
 /// What is reported of a run that began after so many bytes.
@@ -89,16 +88,14 @@ fn end_after(executed: u64, more: u64) -> u64
 fn go_on(
     machine: &mut Machine,
     program: &Program,
-    code: &[u8],
-    decoded: &DecodedCode<'_>,
+    decoded: &DecodedCode,
     limit: u64,
 ) -> Option<Reaction>
     requires runs { Runs program.now machine.old }
-    requires code { code.now ≡ program.now.code }
     requires decoded { decoded.now ≡ program.now.code }
     ensures { GoesBy program.now machine.old limit result machine.new }
 {
-    machine.go_on_until(program, code, decoded, limit)
+    machine.go_on_until(program, decoded, limit)
 }
 
 /// Steps in which no process gives way, and the first that is ready is next, until one emits a message, no process is
@@ -107,12 +104,10 @@ fn go_on(
 pub fn run(
     machine: &mut Machine,
     program: &Program,
-    code: &[u8],
-    decoded: &DecodedCode<'_>,
+    decoded: &DecodedCode,
     limit: u64,
 ) -> RunReport
     requires runs { Runs program.now machine.old }
-    requires code { code.now ≡ program.now.code }
     requires decoded { decoded.now ≡ program.now.code }
     ensures runs { Runs program.now machine.new }
     ensures message { HasMessage (has_emitted result.stop) machine.new }
@@ -122,7 +117,7 @@ pub fn run(
     let start = machine.executed();
     let end = end_after(start, limit);
     'steps: while machine.executed() < end {
-        let Some(reaction) = go_on(machine, program, code, decoded, end) else {
+        let Some(reaction) = go_on(machine, program, decoded, end) else {
             return report_of(machine, start, RunStop::AtLimit);
         };
         if let Some(stop) = stop_of(reaction) {

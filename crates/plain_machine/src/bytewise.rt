@@ -1,6 +1,6 @@
 //! The code, a byte at a time.
 
-ghost use Rattle.std.specs.Prelude.{◌≡◌, ◌<◌, ◌^◌, length, slice_index};
+ghost use Rattle.std.specs.Prelude.{◌≡◌, ◌+◌, ◌<◌, ◌^◌};
 ghost use Rattle.prefix_decoder.specs.Functions.{fun_of};
 ghost use Rattle.prefix_decoder.specs.Operand.{IsRegister};
 ghost use Rattle.machine_state.specs.Instructions.{instruction_of};
@@ -68,28 +68,24 @@ fn function_with(code: u8) -> Option<Fun>
     }
 }
 
-/// Executes the next byte of the process that runs, of code that begins at this address: a prefix goes to the operand,
+/// Executes this byte of the process that runs, of code that begins at this address: a prefix goes to the operand,
 /// and any other byte completes an instruction. `operand` is 0 between two instructions. Nothing is tested.
 #[inline(always)]
 pub fn execute_byte(
     bytes: &mut [u8],
     registers: &mut PlainRegisters,
     operand: &mut i32,
-    code: &[u8],
+    byte: u8,
     code_start: u32,
 ) -> PlainFlow
-    requires code { length code.now < 2 ^ 32 }
-    requires inside { registers.old.at < length code.now }
+    requires small { registers.old.at + 1 < 2 ^ 32 }
     requires register { IsRegister operand.old }
-    requires safe { let byte = slice_index code.now registers.old.at in
-        IsByteSafe byte operand.old (state_of registers.old bytes.old) }
-    ensures step { let byte = slice_index code.now registers.old.at in
-        let step = byte_step code_start byte operand.old (state_of registers.old bytes.old) in
+    requires safe { IsByteSafe byte operand.old (state_of registers.old bytes.old) }
+    ensures step { let step = byte_step code_start byte operand.old (state_of registers.old bytes.old) in
         Does step result registers.new bytes.new }
-    ensures operand { operand.new ≡ operand_after (slice_index code.now registers.old.at) operand.old }
+    ensures operand { operand.new ≡ operand_after byte operand.old }
     ensures register { IsRegister operand.new }
 {
-    let byte = code[registers.at as usize];
     registers.at += 1;
     let whole = with_nibble(*operand, byte);
     let function = byte >> 4;

@@ -1,7 +1,7 @@
 //! Memory as plain bytes.
 
 ghost use Rattle.std.specs.Prelude.{◌≡◌, ◌+◌, ◌<◌, ◌≤◌, ◌^◌, ◌&&◌, ◌||◌, ◌==◌, nat_lt, nat_le, length, replicate, IfOk};
-ghost use Rattle.std.specs.Prelude.{slice_index, Some};
+ghost use Rattle.std.specs.Prelude.{Some};
 ghost use Rattle.prefix_decoder.specs.Operand.{IsRegister};
 ghost use Rattle.machine_state.specs.LocalStep.{address, copied};
 ghost use Rattle.machine_state.specs.Memory.{place_of, scheduling_word, with_byte};
@@ -9,7 +9,7 @@ ghost use Rattle.plain_machine.specs.Plain.{defined};
 ghost use Rattle.plain_machine.specs.PlainByte.{byte_step, operand_after, IsByteSafe};
 ghost use Rattle.plain_machine.specs.PlainRun.{CanRun, HasRun, TurnsWithin, executed_with, point_of};
 ghost use Rattle.plain_machine.specs.PlainStep.{state_of, plain_word, plain_code_offset, with_plain_word, Does};
-ghost use Rattle.plain_machine.specs.PlainStep.{HasWord, HasBytes};
+ghost use Rattle.plain_machine.specs.PlainStep.{HasWord, HasBytes, plain_byte};
 ghost use Rattle.plain_machine.specs.Waiting.{parked};
 
 use crate::decoding::DecodedCode;
@@ -55,7 +55,7 @@ impl PlainStore {
         })
     }
 
-    /// Executes the next byte of the process that runs, of code that begins at this address: a prefix goes to the
+    /// Executes this byte of the process that runs, of code that begins at this address: a prefix goes to the
     /// operand, and any other byte completes an instruction. `operand` is 0 between two instructions. Nothing is
     /// tested.
     #[inline(always)]
@@ -63,21 +63,18 @@ impl PlainStore {
         &mut self,
         registers: &mut PlainRegisters,
         operand: &mut i32,
-        code: &[u8],
+        byte: u8,
         code_start: u32,
     ) -> PlainFlow
-        requires code { length code.now < 2 ^ 32 }
-        requires inside { registers.old.at < length code.now }
+        requires small { registers.old.at + 1 < 2 ^ 32 }
         requires register { IsRegister operand.old }
-        requires safe { let byte = slice_index code.now registers.old.at in
-            IsByteSafe byte operand.old (state_of registers.old self.old) }
-        ensures step { let byte = slice_index code.now registers.old.at in
-            let step = byte_step code_start byte operand.old (state_of registers.old self.old) in
+        requires safe { IsByteSafe byte operand.old (state_of registers.old self.old) }
+        ensures step { let step = byte_step code_start byte operand.old (state_of registers.old self.old) in
             Does step result registers.new self.new }
-        ensures operand { operand.new ≡ operand_after (slice_index code.now registers.old.at) operand.old }
+        ensures operand { operand.new ≡ operand_after byte operand.old }
         ensures register { IsRegister operand.new }
     {
-        bytewise::execute_byte(&mut self.bytes, registers, operand, code, code_start)
+        bytewise::execute_byte(&mut self.bytes, registers, operand, byte, code_start)
     }
 
     /// Executes instructions of the process that runs, one after the other, until one asks something of others, of code
@@ -138,6 +135,15 @@ impl PlainStore {
         ensures { defined self.new ≡ with_byte (defined self.old) (place_of address) (Some byte) }
     {
         bytes::set_byte(&mut self.bytes, place_of(address) as usize, byte);
+    }
+
+    /// The byte at an address in memory.
+    #[inline]
+    pub(crate) fn byte(&self, address: u32) -> u8
+        requires { place_of address < length self.now }
+        ensures { result ≡ plain_byte (defined self.now) address }
+    {
+        words::load_byte(&self.bytes, address)
     }
 
     /// The word at an address in memory.

@@ -1,6 +1,6 @@
 //! Memory, and the ready processes that are kept in it.
 
-ghost use Rattle.std.specs.Prelude.{◌≡◌, ℕ, ◌<◌, ◌^◌, [], ◌∷◌, ◌++◌, ◌==◌, length, slice_index, Some, IsTrue};
+ghost use Rattle.std.specs.Prelude.{◌≡◌, ℕ, ◌+◌, ◌<◌, ◌^◌, [], ◌∷◌, ◌++◌, ◌==◌, length, Some, IsTrue};
 ghost use Rattle.std.specs.List.{remove};
 ghost use Rattle.prefix_decoder.specs.Operand.{IsRegister};
 ghost use Rattle.machine_state.specs.Exchanges.{bytes_at};
@@ -13,7 +13,8 @@ ghost use Rattle.plain_machine.specs.Plain.{defined};
 ghost use Rattle.plain_machine.specs.PlainByte.{byte_step, operand_after, IsByteSafe};
 ghost use Rattle.plain_machine.specs.PlainRun.{PlainPoint, CanRun, HasRun, LinksStay, RunsTo, point_in};
 ghost use Rattle.plain_machine.specs.PlainRun.{TurnsWithin, executed_with};
-ghost use Rattle.plain_machine.specs.PlainStep.{PlainState, leaves, HasWord, HasBytes, plain_word, with_plain_word};
+ghost use Rattle.plain_machine.specs.PlainStep.{PlainState, leaves, HasWord, HasBytes};
+ghost use Rattle.plain_machine.specs.PlainStep.{plain_byte, plain_word, with_plain_word};
 ghost use Rattle.plain_machine.specs.Waiting.{ReadyMemory, parked, picked, resumed_at};
 ghost use Rattle.plain_machine.specs.Waiting.{CanPushBehind, AllCanResume};
 
@@ -62,7 +63,7 @@ impl Workspaces {
         }
     }
 
-    /// Executes the next byte of the process that runs, of code that begins at this address: a prefix goes to the
+    /// Executes this byte of the process that runs, of code that begins at this address: a prefix goes to the
     /// operand, and any other byte completes an instruction. `operand` is 0 between two instructions. Nothing is
     /// tested: the byte is safe, and changes no link of a ready process.
     #[inline(always)]
@@ -70,28 +71,24 @@ impl Workspaces {
         &mut self,
         registers: &mut PlainRegisters,
         operand: &mut i32,
-        code: &[u8],
+        byte: u8,
         code_start: u32,
     ) -> PlainFlow
-        requires code { length code.now < 2 ^ 32 }
-        requires inside { registers.old.at < length code.now }
+        requires small { registers.old.at + 1 < 2 ^ 32 }
         requires register { IsRegister operand.old }
-        requires safe { let byte = slice_index code.now registers.old.at in
-            IsByteSafe byte operand.old (record { registers = registers.old; memory = self.old.memory }) }
-        requires links { let byte = slice_index code.now registers.old.at in
-            let from : PlainState = record { registers = registers.old; memory = self.old.memory } in
+        requires safe { IsByteSafe byte operand.old (record { registers = registers.old; memory = self.old.memory }) }
+        requires links { let from : PlainState = record { registers = registers.old; memory = self.old.memory } in
             let after = (byte_step code_start byte operand.old from).state.memory in
             AgreesOnKept keeps_link self.old.ready self.old.memory after }
-        ensures step { let byte = slice_index code.now registers.old.at in
-            let from : PlainState = record { registers = registers.old; memory = self.old.memory } in
+        ensures step { let from : PlainState = record { registers = registers.old; memory = self.old.memory } in
             let step = byte_step code_start byte operand.old from in
             leaves result (record { registers = registers.new; memory = self.new.memory }) ≡ step }
         ensures ready { self.new.ready ≡ self.old.ready }
-        ensures operand { operand.new ≡ operand_after (slice_index code.now registers.old.at) operand.old }
+        ensures operand { operand.new ≡ operand_after byte operand.old }
         ensures register { IsRegister operand.new }
     {
         self.store
-            .execute_byte(registers, operand, code, code_start)
+            .execute_byte(registers, operand, byte, code_start)
     }
 
     /// Executes instructions of the process that runs, one after the other, until one asks something of others, of code
@@ -145,6 +142,15 @@ impl Workspaces {
         ensures ready { self.new.ready ≡ self.old.ready }
     {
         self.store.set_byte(address, byte);
+    }
+
+    /// The byte at this address, which lies in memory.
+    #[inline]
+    pub fn byte(&self, address: u32) -> u8
+        requires { place_of address < length self.now.memory }
+        ensures { result ≡ plain_byte self.now.memory address }
+    {
+        self.store.byte(address)
     }
 
     /// The word at this address, which lies in memory.

@@ -8,3 +8,4 @@ pub mod Branching
 pub mod Ending
 pub mod Alternating
 pub mod RunningAlone
+pub mod CodeInMemory

@@ -1,7 +1,6 @@
 //! The plain machine runs a module, and agrees with the worlds that the machine's definitions say.
 #![tactic(auto)]
 
-mod known_module;
 mod link_words;
 mod machine;
 mod program;

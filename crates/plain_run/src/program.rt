@@ -1,15 +1,15 @@
-//! What a run reads of its module beside the code.
+//! What a run reads of its module.
 
 ghost use Rattle.std.specs.Prelude.{◌≡◌, ◌+◌, ◌*◌, ◌<◌, ◌^◌};
 ghost use Rattle.module_format.specs.Contents.{contents_of};
 ghost use Rattle.machine_state.specs.Memory.{data_start};
 
-use crate::known_module::KnownModule;
 use machine_state::DATA_START;
 use module_format::Tables;
+use plain_machine::KnownModule;
 use std::marker::Model;
 
-/// What a run reads of its module beside the code: how many words of data there are, and where it finishes. It is seen as
+/// What a run reads of its module beside memory: how many words of data there are, and where it finishes. It is seen as
 /// the module.
 #[derive(Drop)]
 pub struct Program {

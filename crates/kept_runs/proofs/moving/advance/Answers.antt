@@ -2,22 +2,22 @@ use Rattle.machine_state.specs.Happens.{happens}
 use Rattle.accepted_runs.proofs.Happening as happening
 use Rattle.kept_runs.proofs.moving.advance.Goals as goal
 
-pub apply-requires-clause-can : goal.apply-requires-clause-can
-apply-requires-clause-can c =
-    happening.can_happen c.args.program.now c.args.machine.now c.requires.runs.0 c.requires.runs.1 c.args.event
+pub apply-requires : goal.apply-requires
+apply-requires c =
+    happening.can_happen c.args.program.now c.args.machine.now c.requires.0 c.requires.1 c.args.event
     c.can_happen.ensures
 
 pub returns-clause-runs : goal.returns-clause-runs
 returns-clause-runs c =
     let m = c.args.program.now in (
-      happens m c.requires.runs.0 c.args.event,
-      happening.goes_on m c.args.machine.now c.requires.runs.0 c.requires.runs.1 c.args.event c.can_happen.ensures c.apply.result
+      happens m c.requires.0 c.args.event,
+      happening.goes_on m c.args.machine.now c.requires.0 c.requires.1 c.args.event c.can_happen.ensures c.apply.result
           c.apply.new.self c.apply.ensures,
     )
 
 pub returns-clause-message : goal.returns-clause-message
 returns-clause-message c =
-    happening.has_message c.args.program.now c.args.machine.now c.requires.runs.0 c.requires.runs.1 c.args.event
+    happening.has_message c.args.program.now c.args.machine.now c.requires.0 c.requires.1 c.args.event
     c.can_happen.ensures c.apply.result c.apply.new.self c.apply.ensures
 
 pub returns-clause-reacts : goal.returns-clause-reacts

@@ -5,8 +5,8 @@ use Rattle.accepted_runs.specs.Reacting.{HasMessage}
 use Rattle.accepted_runs.proofs.Happening as happening
 use Rattle.accepted_runs.proofs.running.Run.advance.Goals as goal
 
-pub apply-reaction-requires-clause-can : goal.apply-reaction-requires-clause-can
-apply-reaction-requires-clause-can c =
+pub apply-reaction-requires : goal.apply-reaction-requires
+apply-reaction-requires c =
     let somewhere = c.self.invariant.0 in
     happening.can_happen c.self.inside.program c.self.inside.machine somewhere.0 somewhere.1
     c.args.event c.can_happen.ensures
@@ -26,7 +26,6 @@ invariant_of-self c =
           (happening.has_message m c.self.inside.machine somewhere.0 somewhere.1 c.args.event c.can_happen.ensures reaction
           after c.apply-reaction.ensures),
       c.self.invariant.2,
-      c.self.invariant.3,
     )
 
 pub returns-clause-reacts : goal.returns-clause-reacts

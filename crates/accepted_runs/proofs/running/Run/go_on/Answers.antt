@@ -27,7 +27,6 @@ invariant_of-self c =
       subst (λ (b : Bool). HasMessage b after) (sym c.has_sent-self-inside.ensures)
           (happening.has_message m x.between come.world come.on plain_step tt reaction after x.reacts),
       c.self.invariant.2,
-      c.self.invariant.3,
     )
 
 pub returns : goal.returns

@@ -22,7 +22,6 @@ invariant_of-result c =
             (at_first m keeps well)),
       ),
       tt,
-      code,
       c.in_ok-decoded.ensures ∙ code,
     )
 

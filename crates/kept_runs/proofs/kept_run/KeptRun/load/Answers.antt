@@ -1,7 +1,6 @@
-use Rattle.std.proofs.Common.{◌∙◌, ℕ, List, ap, subst, sym}
+use Rattle.std.proofs.Common.{◌∙◌, ap, subst, sym}
 use Rattle.module_format.specs.Contents.{Contents, contents_of}
 use Rattle.machine_state.specs.World.{loaded}
-use Rattle.plain_machine.specs.Sequences.{AreEntries}
 use Rattle.agreement.specs.Agrees.{PlainMachine}
 use Rattle.accepted_runs.specs.Running.{AgreesOn}
 use Rattle.accepted_runs.proofs.Happening.{at_first}
@@ -25,7 +24,5 @@ invariant_of-result c =
             (at_first m c.requires.keeps ∣ c.requires.well ∣₁)),
       ),
       tt,
-      c.in_ok-code.ensures.items ∙ code,
-      subst (λ (code : List ℕ). AreEntries code c.into_entries-entries.result.items)
-          (c.in_ok-decoded.ensures ∙ code) c.into_entries-entries.ensures,
+      c.in_ok-decoded.ensures ∙ code,
     )

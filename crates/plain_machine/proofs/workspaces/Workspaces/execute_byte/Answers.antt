@@ -1,5 +1,4 @@
 use Rattle.std.proofs.Common.{sym, subst, ◌∙◌, ap}
-use Rattle.std.specs.Prelude.{slice_index}
 use Rattle.machine_state.specs.Memory.{Memory}
 use Rattle.process_queue.specs.Keeping.{AgreesOnKept}
 use Rattle.plain_machine.specs.Linked.{keeps_link}
@@ -12,8 +11,7 @@ use Rattle.plain_machine.proofs.workspaces.Workspaces.execute_byte.Goals as goal
 
 pub invariant_of-self : goal.invariant_of-self
 invariant_of-self c =
-    let byte = slice_index c.args.code.now c.args.registers.now.at in
-    let stepped : Memory → Stepped = λ memory. byte_step c.args.code_start byte c.args.operand.now
+    let stepped : Memory → Stepped = λ memory. byte_step c.args.code_start c.args.byte c.args.operand.now
     (record { registers = c.args.registers.now; memory = memory }) in
     let links = subst (λ (r : ReadyMemory). AgreesOnKept keeps_link r.ready r.memory (stepped r.memory).state.memory)
     (sym c.self.view_is) c.requires.links in
@@ -23,8 +21,7 @@ invariant_of-self c =
 
 pub returns-clause-ready : goal.returns-clause-ready
 returns-clause-ready c =
-    let byte = slice_index c.args.code.now c.args.registers.now.at in
-    let stepped : Memory → Stepped = λ memory. byte_step c.args.code_start byte c.args.operand.now
+    let stepped : Memory → Stepped = λ memory. byte_step c.args.code_start c.args.byte c.args.operand.now
     (record { registers = c.args.registers.now; memory = memory }) in
     let links = subst (λ (r : ReadyMemory). AgreesOnKept keeps_link r.ready r.memory (stepped r.memory).state.memory)
     (sym c.self.view_is) c.requires.links in

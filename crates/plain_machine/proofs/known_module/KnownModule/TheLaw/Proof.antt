@@ -1,8 +1,8 @@
 -- A `&` to the module that runs holds nothing.
 use denote.SharingLaws.{nothing_shr_laws}
 use denote.Struct.Lending.{of_Lends, Lends-nothing}
-use Rattle.plain_run.specs.contracts.known_module.KnownModule as C
-use Rattle.plain_run.proofs.known_module.KnownModule.TheLaw.Statement.{statement}
+use Rattle.plain_machine.specs.contracts.known_module.KnownModule as C
+use Rattle.plain_machine.proofs.known_module.KnownModule.TheLaw.Statement.{statement}
 
 pub shares : statement
 shares =

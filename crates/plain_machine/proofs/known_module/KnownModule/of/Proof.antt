@@ -27,11 +27,11 @@ use denote.Triple.Spec.{Meets, triple_of}
 use denote.Triple.Table.{entered}
 use denote.Triple.Walked.{says, stay_none_ref, Stays, walk_of, Walks, ends_at, walked, Goes-none_ref, walk_Meets}
 use Rattle.module_format.specs.Contents.{contents_of}
-use Rattle.plain_run.specs.contracts.known_module.KnownModule.of.Key.{name as key}
-use Rattle.plain_run.specs.contracts.known_module.KnownModule.of as f
-use Rattle.plain_run.proofs.known_module.KnownModule.of.Statement as stated
-use Rattle.plain_run.proofs.known_module.KnownModule.of.Code as code
-use Rattle.plain_run.specs.contracts.known_module.KnownModule as made
+use Rattle.plain_machine.specs.contracts.known_module.KnownModule.of.Key.{name as key}
+use Rattle.plain_machine.specs.contracts.known_module.KnownModule.of as f
+use Rattle.plain_machine.proofs.known_module.KnownModule.of.Statement as stated
+use Rattle.plain_machine.proofs.known_module.KnownModule.of.Code as code
+use Rattle.plain_machine.specs.contracts.known_module.KnownModule as made
 use Rattle.module_format.specs.contracts.tables.Tables as read
 
 -- the type of what is passed

@@ -9,8 +9,8 @@ use std::marker::Model;
 
 /// The module that runs. Only proofs read it, and it takes no bytes.
 #[derive(Drop)]
-pub(crate) struct KnownModule {
-    ghost contents: { Contents },
+pub struct KnownModule {
+    pub ghost contents: { Contents },
 }
 
 impl Model for KnownModule {
@@ -21,7 +21,7 @@ impl Model for KnownModule {
 
 impl KnownModule {
     /// The module of these tables.
-    pub(crate) fn of(_tables: &Tables<'_>) -> KnownModule
+    pub fn of(_tables: &Tables<'_>) -> KnownModule
         ensures { result.contents ≡ contents_of _tables.now }
     {
         KnownModule {}
