@@ -101,12 +101,7 @@ fn go_on(
 /// Steps in which no process gives way, and the first that is ready is next, until one emits a message, no process is
 /// running, or so many bytes are executed: then after the first that completes a loop's end, a call or what asks
 /// something of others. They are those of the code, decoded.
-pub fn run(
-    machine: &mut Machine,
-    program: &Program,
-    decoded: &DecodedCode,
-    limit: u64,
-) -> RunReport
+pub fn run(machine: &mut Machine, program: &Program, decoded: &DecodedCode, limit: u64) -> RunReport
     requires runs { Runs program.now machine.old }
     requires decoded { decoded.now ≡ program.now.code }
     ensures runs { Runs program.now machine.new }
