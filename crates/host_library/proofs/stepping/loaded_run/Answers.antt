@@ -5,6 +5,7 @@ use Rattle.machine_state.specs.World.{loaded}
 use Rattle.certified_worlds.specs.Certified.{IsCertified}
 use Rattle.verifier.specs.Headline.{RunsWell}
 use Rattle.accepted_runs.specs.Running.{Shows}
+use Rattle.host_library.specs.Machines.{IsLoaded}
 use Rattle.host_library.specs.declared.failure.HostFailure.TheVariants.{Memory}
 use Rattle.host_library.proofs.Refused.{refused, only_memory}
 use Rattle.host_library.proofs.Unread.{unread, unread_for_memory, memory_alone}
@@ -35,11 +36,11 @@ pub returns-in_err-new-clause-certified : goal.returns-in_err-new-clause-certifi
 returns-in_err-new-clause-certified c m format certified =
     memory_alone c.from_residual-in_err-new.result c.from_residual-in_err-new.ensures.1
 
-pub load-run-requires-clause-keeps : goal.load-run-requires-clause-keeps
-load-run-requires-clause-keeps c = subst Keeps (sym c.tables.ensures.contents) c.tables.ensures.kept
+pub load-requires-clause-keeps : goal.load-requires-clause-keeps
+load-requires-clause-keeps c = subst Keeps (sym c.tables.ensures.contents) c.tables.ensures.kept
 
-pub load-run-requires-clause-well : goal.load-run-requires-clause-well
-load-run-requires-clause-well c = subst RunsWell (sym c.tables.ensures.contents) c.in_ok-verify.ensures.headline
+pub load-requires-clause-well : goal.load-requires-clause-well
+load-requires-clause-well c = subst RunsWell (sym c.tables.ensures.contents) c.in_ok-verify.ensures.headline
 
 pub returns-clause-answer : goal.returns-clause-answer
 returns-clause-answer c = record {
@@ -47,9 +48,9 @@ returns-clause-answer c = record {
   format = c.in_ok-module.ensures.found;
   certified = c.in_ok-verify.ensures.accepts.1;
   runs_well = c.in_ok-verify.ensures.headline;
-  holds = record {
+  holds = subst (IsLoaded c.in_ok-module.module) (sym c.in_ok-new.ensures.ok) (record {
     contents = c.in_ok-run.ensures.contents ∙ c.tables.ensures.contents;
-    shows = subst (λ (m : Contents). Shows c.in_ok-run.run (loaded m)) c.tables.ensures.contents
+    shows = subst (λ (m : Contents). Shows c.in_ok-run.run' (loaded m)) c.tables.ensures.contents
         c.in_ok-run.ensures.shows;
-  };
+  });
 }
