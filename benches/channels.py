@@ -1,12 +1,14 @@
-"""Module files whose calls in a branch take as many channels as data words allow, made to be slow."""
+"""Module files whose calls in a branch take as many channels as may be, made to be slow."""
 
 import struct
 
-from inputs import LOAD_CONSTANT, MAX_CODE_2, MAX_DATA_WORDS, STOP_PROCESS, backwards
-from modules import FRAME_WORD, IN, OUT, branch_row, code, module, par_row
+from inputs import (
+    BOTH, CHANNEL_PARAMETER, LOAD_CONSTANT, MAX_CODE_2, MAX_DATA_WORDS, STOP_PROCESS, UNKNOWN, backwards,
+    parameter_entry,
+)
+from modules import FRAME_WORD, IN, OUT, PARAMETER, branch_row, code, module, par_row
 
 CHANNELS = 16_320
-CHANNEL_PARAMETER, BOTH = 3, 3
 FIRST = 32  # the frame word of the first channel
 WORKSPACE = 16  # that of the branch
 WORDS = [(8, 24)]  # what the branch writes: its own words, and those of the procedure that it calls
@@ -34,3 +36,28 @@ def taking_channels(depth):
         pars.append(par_row(context, 0, 0, start, channels, [branch]))
     label = struct.pack("<IHiQBBBH", start, 1 + depth, WORKSPACE, 2 * len(body), 0, 0, 0, 0)
     return module(body, MAX_DATA_WORDS, version=2, procedures=[procedure], labels=[label], pars=pars)
+
+
+def taking_elements(count=65_535):
+    """Calls, over and over, of a procedure that takes so many channels of a parameter, in a branch of another one that
+    has an end of each of them by its row."""
+    parameter = struct.pack("<HBIIB", 1, CHANNEL_PARAMETER, count, 4, IN)
+    callee = len(STOP_PROCESS)
+    body = STOP_PROCESS + code("ret")
+    caller = len(body)
+    body += STOP_PROCESS
+    entry = len(body)
+    passing = code(f"ldl {1 - WORKSPACE}")
+    while len(body) < MAX_CODE_2 - 16:
+        body += passing
+        body += backwards("call", len(body), callee)
+    body += STOP_PROCESS
+    procedures = [
+        struct.pack("<IiiQH", callee, 0, 4, 2, 1) + parameter,
+        struct.pack("<IiiQH", caller, -64, 64, 2, 1) + parameter,
+    ]
+    ends = [(PARAMETER, 0, element, IN) for element in range(count)]
+    branch = branch_row(entry, WORKSPACE, WORDS, [(1, 2)], ends)
+    pars = [par_row(2, 0, 0, caller, [], [branch])]
+    label = struct.pack("<IHiQBBBH", entry, 3, WORKSPACE, 1 << 40, *(UNKNOWN,) * 3, 1) + parameter_entry(1)
+    return module(body, version=2, procedures=procedures, labels=[label], pars=pars)

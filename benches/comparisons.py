@@ -14,6 +14,7 @@ from inputs import (
     LEAST,
     LOAD_CONSTANT,
     MAX_CODE_2,
+    MAX_LABELS,
     STOP_PROCESS,
     each_word,
     label_row,
@@ -126,6 +127,11 @@ def constant(word, number):
     return number_entry(word, 1, number, number)
 
 
+def any_numbers(first, end):
+    """An entry that says that the words from one up to another, which is not included, are numbers."""
+    return number_entry(first, end - first, LEAST, GREATEST)
+
+
 def written(words):
     """Instructions that write a constant to each of these words."""
     return ", ".join(f"ldc 0, stl {word}" for word in words)
@@ -216,6 +222,67 @@ def to_new_labels_of_half_blocks():
     known = [number_entry(start, half, *limits) for start, limits in ranges if not start <= 1 < start + half]
     wanted = [number_entry(start, half, 0, 9) for start, limits in ranges if limits == (0, 9) and start > 1][:90]
     return compared_with_each(after([pointer, *known]), wanted, 4, 8_000, THROUGH_POINTER)
+
+
+def to_new_labels_of_most_words(labels=4, ends=7_500, entries=90):
+    """To 7,500 labels with 90 entries, each about all words of a block but the last, of each of which another range is
+    known, once a store went through a pointer to any word; four times."""
+    most = BLOCK - 1
+    blocks = [word for word in range(FRAME_LO + BLOCK, FRAME_HI - BLOCK, BLOCK) if word != 0]
+    known = [
+        entry
+        for first in blocks
+        for entry in (
+            *(number_entry(word, 1, word % 3, 9) for word in range(first, first + most)),
+            number_entry(first + most, 1, 5, 110),
+        )
+    ]
+    wanted = [number_entry(first, most, 0, 9) for first in blocks if first > 1][:entries]
+    rows = after([pointer_to(range(2, FRAME_HI)), *known])
+    return compared_with_each(rows, wanted, labels, ends, THROUGH_POINTER)
+
+
+def into_labels(entries=110):
+    """Stores through a pointer to any word, each of which falls into a label with so many entries about all others."""
+    piece, start = code(THROUGH_POINTER), 2 * STOP_PROCESS
+    count = min(MAX_LABELS - 2, (MAX_CODE_2 - len(start) - len(STOP_PROCESS)) // len(piece))
+    body = start + piece * count + STOP_PROCESS
+    step = (FRAME_HI - 2) // entries
+    firsts = [2 + step * number for number in range(entries)]
+    spans = [(FRAME_LO, 1), *zip(firsts, [*firsts[1:], FRAME_HI])]
+    rows = after([pointer_to(range(2, FRAME_HI)), *(any_numbers(first, end) for first, end in spans)])
+    offsets = [len(start) + len(piece) * number for number in range(count)]
+    return in_procedure(body, [label_row(at, CONTEXT, NUMBER_OF_LABELS - at * len(body), rows) for at in offsets])
+
+
+def turning_back(words, offset, to):
+    """Instructions at an offset that end loops in these words one after the other, each of which goes back."""
+    load, turn = FUNCTIONS.index("ldc"), code("lend")
+    pieces = []
+    for word in words:
+        before = code(f"ldlp {word}")
+        size = 1
+        while len(spelled(load, offset + len(before) + size + len(turn) - to)) > size:
+            size += 1
+        distance = offset + len(before) + size + len(turn) - to
+        pieces.append(before + spelled(load, distance) + turn)
+        offset += len(pieces[-1])
+    return b"".join(pieces)
+
+
+def at_loops(count=8_000):
+    """The ends of so many loops one after the other, which all go back to one label about all words above and below,
+    once a store went through a pointer to any word above; the loops are below."""
+    words = range(FRAME_LO, FRAME_LO + 2 * count, 2)
+    back, first = 2 * len(STOP_PROCESS), 3 * len(STOP_PROCESS)
+    store = code(THROUGH_POINTER)
+    body = 3 * STOP_PROCESS + store + turning_back(words, first + len(store), back) + STOP_PROCESS
+    known = [loop_entry(word, 3, 3, 1 << 40) for word in words]
+    known += [any_numbers(words.stop, 1), pointer_to(range(2, FRAME_HI)), any_numbers(2, FRAME_HI)]
+    wanted = [any_numbers(FRAME_LO, -3), any_numbers(2, FRAME_HI)]
+    return in_procedure(
+        body, [label_row(back, CONTEXT, 2, wanted), label_row(first, CONTEXT, NUMBER_OF_LABELS, known)]
+    )
 
 
 def to_labels_in_turns(ends=256, before=""):
@@ -318,3 +385,51 @@ def to_loops_between_entries():
 def into_loops():
     """To a label with a loop for each two words, which are constants before."""
     return compared(constants(3), loops(3, 7))
+
+
+# ---- loops that begin and count with the same number, so that a store of that number changes nothing of them
+
+SAME = 3
+
+
+def same_loops(words):
+    """A loop for each two words that begin with one of these."""
+    return [loop_entry(word, SAME, SAME, 0) for word in words]
+
+
+def same_constants(first, end, most):
+    """Entries, each of so many words at most, that say that words are the number with which those loops begin."""
+    return [number_entry(word, min(most, end - word), SAME, SAME) for word in range(first, end, most)]
+
+
+def same_constants_behind_pointer():
+    """Entries that say so of all words but word 1, which is the address of any word after it."""
+    low, high = same_constants(FRAME_LO, 1, FRAME_HI - FRAME_LO), same_constants(2, FRAME_HI, FRAME_HI)
+    return [*low, pointer_to(range(2, FRAME_HI)), *high]
+
+
+def to_loops_behind_writes(words=2_100):
+    """To a label of 16,384 loops that are entered, once so many words were written, one of them before each jump."""
+    every = range(FRAME_LO, FRAME_HI)
+    before = every[:: len(every) // words][:words]
+    changes = ", ".join(f"ldc {SAME}, stl {word}" for word in before)
+    known, wanted = same_constants(FRAME_LO, FRAME_HI, 1), same_loops(every[::2])
+    return compared(known, wanted, test=f"ldc {SAME}, stl 3, ldc 0", changes=changes)
+
+
+def to_loops_behind_store():
+    """The same, once a store went through a pointer to any word."""
+    rows = same_constants_behind_pointer()
+    wanted = same_loops(word for word in range(FRAME_LO, FRAME_HI, 2) if word != 0)
+    changes = f"ldc {SAME}, ldl 1, stnl 0"
+    return compared(rows, wanted, test=f"ldc {SAME}, stl 1000, ldc 0", changes=changes)
+
+
+def to_one_loop_behind_store(loop=FRAME_LO + 2):
+    """The same to a label of one loop, with three entries about the other words. A word of the loop's block is written
+    before each jump."""
+    rows = same_constants_behind_pointer()
+    others = [any_numbers(FRAME_LO, loop), any_numbers(loop + 2, 1), any_numbers(2, FRAME_HI)]
+    wanted = after([*same_loops([loop]), *others])
+    changes = f"ldc {SAME}, ldl 1, stnl 0"
+    return compared(rows, wanted, test=f"ldc {SAME}, stl {FRAME_LO}, ldc 0", changes=changes)

@@ -13,7 +13,11 @@ MAX_PARS, MAX_BRANCHES, MAX_TABLES = 1_024, 64, 1_024
 
 LOAD_CONSTANT = b"\x40"  # ldc 0
 STOP_PROCESS = b"\x21\xf5"  # stopp
-UNKNOWN, NUMBER, POINTER, READ_REGION = 0, 1, 2, 1
+UNKNOWN, NUMBER, POINTER = 0, 1, 2  # kinds of facts
+READ_REGION, CHANNEL_PARAMETER = 1, 3  # kinds of parameters
+BOTH = 3  # ends of channels
+ALL_CHANNELS = 2**32 - 1  # as many as a parameter may have
+FRAME_REGION, PARAMETER_REGION = 0, 2
 MAX_CODE_2 = 262_143  # in version 2
 FRAME_LO, FRAME_HI = -16_384, 16_384  # the largest frame of a procedure
 LEAST, GREATEST = -(2**31), 2**31 - 1
@@ -47,7 +51,12 @@ def number_entry(word, span, low, high):
 
 def pointer_entry(word, low, high, step, span=1):
     """An entry that says of a word, or of so many, that it is the address of a byte of the frame."""
-    return struct.pack("<iIBHiiB", word, span, POINTER, 0, low, high, step)
+    return struct.pack("<iIBHiiB", word, span, POINTER, FRAME_REGION, low, high, step)
+
+
+def parameter_entry(word):
+    """An entry that says of a word that it is the address of what the first parameter names."""
+    return struct.pack("<iIBHiiB", word, 1, POINTER, PARAMETER_REGION, 0, 0, 4)
 
 
 def label_row(offset, context, number, entries):

@@ -2,11 +2,10 @@
 
 import struct
 
-from channels import BOTH, CHANNEL_PARAMETER
 from comparisons import NUMBER_OF_LABELS, after, loop_entry, pointer_to
 from inputs import (
-    FRAME_HI, FRAME_LO, GREATEST, LEAST, MAX_BRANCHES, MAX_CODE_2, MAX_DATA_WORDS, MAX_LABELS, STOP_PROCESS, UNKNOWN,
-    backwards, each_word, filled, label_row, number_entry,
+    ALL_CHANNELS, BOTH, CHANNEL_PARAMETER, FRAME_HI, FRAME_LO, GREATEST, LEAST, MAX_BRANCHES, MAX_CODE_2,
+    MAX_DATA_WORDS, MAX_LABELS, STOP_PROCESS, UNKNOWN, backwards, each_word, filled, label_row, number_entry,
 )
 from modules import assembled, code, module
 
@@ -107,7 +106,7 @@ def with_long_messages():
 def with_wide_channels():
     """Calls, over and over, of a procedure that takes as many channels as a parameter may have, by one that has them
     by a parameter."""
-    parameter = struct.pack("<HBIIB", 1, CHANNEL_PARAMETER, 2**32 - 1, 4, BOTH)
+    parameter = struct.pack("<HBIIB", 1, CHANNEL_PARAMETER, ALL_CHANNELS, 4, BOTH)
     callee, caller = len(STOP_PROCESS), len(STOP_PROCESS) + len(code("ret"))
     body = STOP_PROCESS + code("ret")
     while len(body) < MAX_CODE_2 - 16:

@@ -4,7 +4,7 @@ import struct
 from collections import namedtuple
 
 BASE = 4  # the data word at which the root's workspace begins: call takes the four words below, others three
-FRAME_WORD, LINK = 0, 2  # kinds of ends
+FRAME_WORD, PARAMETER, LINK = 0, 1, 2  # kinds of ends
 IN, OUT = 1, 2
 FUNCTIONS = "j ldlp pfix ldnl ldc ldnlp nfix ldl adc call cj ajw eqc stl stnl opr".split()
 OPERATIONS = {"in": 0x07, "out": 0x0B, "ret": 0x20, "mint": 0x42, "alt": 0x43, "altwt": 0x44, "altend": 0x45}
