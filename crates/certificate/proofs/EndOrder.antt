@@ -1,6 +1,6 @@
 -- Ends that rise can be searched: their order is strict.
 use Rattle.std.proofs.Common.{◌≡◌, ℕ, ℤ, zero, suc, ◌<◌, ◌≤◌, Bool, true, false, ◌&&◌, ◌||◌, ltb, eqb, List, [], ◌∷◌}
-use Rattle.std.proofs.Common.{length, get_or, refl, sym, ap, ◌∙◌, subst, inl, inr, Some, arith, w32, FitsSigned, pos}
+use Rattle.std.proofs.Common.{length, get_or, refl, sym, ap, ◌∙◌, subst, inl, inr, Some, arith, pos, ◌+◌}
 use Rattle.std.specs.Prelude.{◌<ℤ◌, ◌+ℤ◌, int_lt, int_le, MatchOption, slice_get}
 use Rattle.std.specs.List.{list_any}
 use Rattle.std.specs.List.Sorted.{IsPartitionPoint}
@@ -18,12 +18,11 @@ use Rattle.module_format.specs.declared.rows.EndKind.TheVariants as ends
 use Rattle.module_format.specs.declared.rows.EndRow.{EndRow}
 use Rattle.module_format.specs.declared.rows.Direction.{Direction}
 use Rattle.module_format.specs.declared.rows.Direction.TheVariants as directions
-use Rattle.module_format.specs.declared.tags.TheConstants.{END_FRAME_WORD}
 use Rattle.module_format.specs.Order.{InOrder}
 use Rattle.module_format.specs.Pars.{EndKeeps, EndKindKeeps, behind_end, first_key, key_of, is_below, kind_of}
-use Rattle.module_format.specs.Pars.{end_number_of, direction_number}
+use Rattle.module_format.specs.Pars.{end_number_of, end_element_of, direction_number}
 use Rattle.certificate.specs.Rights.{is_same_end}
-use Rattle.certificate.specs.Runs.{word_end}
+use Rattle.certificate.specs.Runs.{further, end_further, lists_end}
 
 -- ---- the order
 
@@ -204,72 +203,105 @@ found_listed test (x ∷ xs) (suc i) h = rw (← found_listed test xs i h) (sym 
 int_same : (k m : ℤ) → (int_le k m && int_le m k) ≡ true → k ≡ m
 int_same k m h = grind (arith, ints)
 
+number_same : (m n : ℕ) → eqb m n ≡ true → m ≡ n
+number_same m n h = grind (arith, nat_tests)
+
+position_same : (m n : ℕ) → (int_le (pos m) (pos n) && int_le (pos n) (pos m)) ≡ true → m ≡ n
+position_same m n h = grind (arith, ints)
+
 same_direction : (x y : Direction) → eqb (direction_number x) (direction_number y) ≡ true → x ≡ y
 same_direction directions.In directions.In h = refl
 same_direction directions.Out directions.Out h = refl
 same_direction directions.In directions.Out h = absurd cc
 same_direction directions.Out directions.In h = absurd cc
 
-frame_word : (e : EndKind) (k : ℤ) → eqb (kind_of e) END_FRAME_WORD ≡ true
-    → (int_le (end_number_of e) k && int_le k (end_number_of e)) ≡ true → e ≡ ends.FrameWord k
-frame_word (ends.FrameWord w) k kind number = ap (λ (z : ℤ). ends.FrameWord z) (int_same w k number)
-frame_word (ends.Parameter j a) k kind number = absurd cc
-frame_word (ends.Link l) k kind number = absurd cc
+-- channels with the same numbers are one
+same_kind : (x y : EndKind) → eqb (kind_of x) (kind_of y) ≡ true
+    → (int_le (end_number_of x) (end_number_of y) && int_le (end_number_of y) (end_number_of x)) ≡ true
+    → eqb (end_element_of x) (end_element_of y) ≡ true → x ≡ y
+same_kind (ends.FrameWord k) (ends.FrameWord m) kind number element =
+    ap (λ (z : ℤ). ends.FrameWord z) (int_same k m number)
+same_kind (ends.Parameter j a) (ends.Parameter k b) kind number element =
+    ap (λ (z : ℤ). ends.Parameter z a) (int_same j k number)
+    ∙ ap (λ (n : ℕ). ends.Parameter k n) (number_same a b element)
+same_kind (ends.Link l) (ends.Link m) kind number element =
+    ap (λ (n : ℕ). ends.Link n) (position_same l m number)
+same_kind (ends.FrameWord k) (ends.Parameter j a) kind number element = absurd cc
+same_kind (ends.FrameWord k) (ends.Link l) kind number element = absurd cc
+same_kind (ends.Parameter j a) (ends.FrameWord k) kind number element = absurd cc
+same_kind (ends.Parameter j a) (ends.Link l) kind number element = absurd cc
+same_kind (ends.Link l) (ends.FrameWord k) kind number element = absurd cc
+same_kind (ends.Link l) (ends.Parameter j a) kind number element = absurd cc
 
--- the end of a channel in a word is one alone
-pub same_word_end : (x : EndRow) (k : ℤ) (d : Direction) → is_same_end (key_of x) (key_of (word_end k d)) ≡ true
-    → x ≡ word_end k d
-same_word_end x k d h =
+-- ends with the same key are one
+pub same_end : (x e : EndRow) → is_same_end (key_of x) (key_of e) ≡ true → x ≡ e
+same_end x e h =
     let three = and_parts _ _ h in
     let two = and_parts _ _ three.0 in
     let one = and_parts _ _ two.0 in
-    let kind : x.kind ≡ ends.FrameWord k = frame_word x.kind k one.0 one.1 in
-    let direction : x.direction ≡ d = same_direction x.direction d three.1 in
-    ap (λ (e : EndKind). record { kind = e; direction = x.direction }) kind
-    ∙ ap (λ (y : Direction). record { kind = ends.FrameWord k; direction = y }) direction
+    let kind : x.kind ≡ e.kind = same_kind x.kind e.kind one.0 one.1 two.1 in
+    let direction : x.direction ≡ e.direction = same_direction x.direction e.direction three.1 in
+    ap (λ (k : EndKind). record { kind = k; direction = x.direction }) kind
+    ∙ ap (λ (y : Direction). record { kind = e.kind; direction = y }) direction
 
 pub same_itself : (x : EndRow) → is_same_end (key_of x) (key_of x) ≡ true
 same_itself x = grind (arith, nat_tests, ints)
 
 -- where it was found
-pub word_found : (listed : List EndRow) (i : ℕ) (k : ℤ) (d : Direction)
-    → MatchOption (slice_get listed i) ⊥ (λ x. is_same_end (key_of x) (key_of (word_end k d)) ≡ true)
-    → slice_get listed i ≡ Some (word_end k d)
-word_found [] i k d h = absurd h
-word_found (x ∷ xs) zero k d h = ap (λ (y : EndRow). Some y) (same_word_end x k d h)
-word_found (x ∷ xs) (suc i) k d h = word_found xs i k d h
+pub end_found : (listed : List EndRow) (i : ℕ) (e : EndRow)
+    → MatchOption (slice_get listed i) ⊥ (λ x. is_same_end (key_of x) (key_of e) ≡ true)
+    → slice_get listed i ≡ Some e
+end_found [] i e h = absurd h
+end_found (x ∷ xs) zero e h = ap (λ (y : EndRow). Some y) (same_end x e h)
+end_found (x ∷ xs) (suc i) e h = end_found xs i e h
 
--- ---- neighbouring words
+-- ---- neighbouring channels
 
--- the end of the next word's channel is after that of a word's
-pub word_before : (es : List EndRow) (i j : ℕ) (k : ℤ) (d : Direction) → InOrder EndKeeps behind_end first_key es
-    → slice_get es i ≡ Some (word_end k d) → slice_get es j ≡ Some (word_end (k +ℤ pos 1) d) → i < j
-word_before es i j k d h here next = elim (cases_lt i j) [
+-- the channel after one is another one
+next_differs : (kind : EndKind) → kind ≡ further kind 1 → ⊥
+next_differs (ends.FrameWord k) same =
+    let word : k ≡ k +ℤ pos 1 = ap end_number_of same in
+    absurd (omega (arith, ints))
+next_differs (ends.Parameter j a) same =
+    let element : a ≡ a + 1 = ap end_element_of same in
+    absurd (omega arith)
+next_differs (ends.Link l) same =
+    let number : pos l ≡ pos (l + 1) = ap end_number_of same in
+    absurd (omega (arith, ints))
+
+-- an end is before that of the next channel
+next_above : (kind : EndKind) (d : Direction)
+    → is_below (key_of (record { kind = further kind 1; direction = d })) (key_of (record { kind = kind; direction = d }))
+    ≡ false
+next_above (ends.FrameWord k) d = grind (arith, nat_tests, ints)
+next_above (ends.Parameter j a) d = grind (arith, nat_tests, ints)
+next_above (ends.Link l) d = grind (arith, nat_tests, ints)
+
+pub end_before : (es : List EndRow) (i j : ℕ) (e : EndRow) → InOrder EndKeeps behind_end first_key es
+    → slice_get es i ≡ Some e → slice_get es j ≡ Some (end_further e 1) → i < j
+end_before es i j e h here next = elim (cases_lt i j) [
   | inl less ↦ less
   | inr ge ↦ elim (cases_lt j i) [
     | inl behind ↦
-        let rises = rise (word_end k d) first_key es j i h behind (slice_get_within es i (word_end k d) here) in
-        let below =
-        rw (get_or_from_slice_get es i _ (word_end k d) here, get_or_from_slice_get es j _ (word_end k d) next)
-        at rises in
-        absurd (grind (arith, nat_tests, ints))
+        let rises = rise e first_key es j i h behind (slice_get_within es i e here) in
+        let below : is_below (key_of (end_further e 1)) (key_of e) ≡ true =
+        rw (get_or_from_slice_get es i e e here, get_or_from_slice_get es j (end_further e 1) e next) at rises in
+        absurd (let no : true ≡ false = sym below ∙ next_above e.kind e.direction in cc)
     | inr le ↦
         let same : j ≡ i = omega arith in
-        let both : Some (word_end k d) ≡ Some (word_end (k +ℤ pos 1) d) =
-        sym here ∙ ap (slice_get es) (sym same) ∙ next in
-        let same_end : word_end k d ≡ word_end (k +ℤ pos 1) d = cc in
-        let word : k ≡ k +ℤ pos 1 = ap (λ (x : EndRow). end_number_of x.kind) same_end in
-        absurd (omega (arith, ints))
+        let both : Some e ≡ Some (end_further e 1) = sym here ∙ ap (slice_get es) (sym same) ∙ next in
+        let one : e ≡ end_further e 1 = cc in
+        absurd (next_differs e.kind (ap (λ (x : EndRow). x.kind) one))
   ]
 ]
 
--- what is no word has no end
-pub no_word : (es : List EndRow) (low : EndKey) (k : ℤ) (d : Direction) → InOrder EndKeeps behind_end low es
-    → (FitsSigned w32 k → ⊥) → list_any (λ x. is_same_end (key_of x) (key_of (word_end k d))) es ≡ false
-no_word [] low k d h far = refl
-no_word (e ∷ es) low k d h far =
-    elim (is_same_end (key_of e) (key_of (word_end k d))) as (λ b. is_same_end (key_of e) (key_of (word_end k d)) ≡ b
-    → (b || list_any (λ x. is_same_end (key_of x) (key_of (word_end k d))) es) ≡ false) [
-      | true ↦ λ same. absurd (far (subst (λ (x : EndRow). EndKindKeeps x.kind) (same_word_end e k d same) h.0.kind))
-      | false ↦ λ same. no_word es (key_of e) k d h.1 far
+-- what no channel's number can be has no end
+pub no_end : (es : List EndRow) (low : EndKey) (e : EndRow) → InOrder EndKeeps behind_end low es
+    → (EndKindKeeps e.kind → ⊥) → lists_end es e ≡ false
+no_end [] low e h far = refl
+no_end (x ∷ xs) low e h far =
+    elim (is_same_end (key_of x) (key_of e)) as (λ b. is_same_end (key_of x) (key_of e) ≡ b
+    → (b || lists_end xs e) ≡ false) [
+      | true ↦ λ same. absurd (far (subst (λ (y : EndRow). EndKindKeeps y.kind) (same_end x e same) h.0.kind))
+      | false ↦ λ same. no_end xs (key_of x) e h.1 far
     ] refl

@@ -1,6 +1,6 @@
 //! What a context may do with the words of its frame and with channels.
 
-ghost use Rattle.std.specs.Prelude.{◌≡◌, true, false, MatchOption, slice_get};
+ghost use Rattle.std.specs.Prelude.{◌≡◌, ◌+◌, true, false, MatchOption, slice_get};
 ghost use Rattle.std.specs.List.{list_any};
 ghost use Rattle.module_format.specs.declared.rows.EndRow.{EndRow};
 ghost use Rattle.module_format.specs.Order.{InOrder, least_word};
@@ -8,9 +8,10 @@ ghost use Rattle.module_format.specs.Pars.{IntervalKeeps, behind_interval, Chann
 ghost use Rattle.module_format.specs.Pars.{behind_end, first_key, key_of};
 ghost use Rattle.certificate.specs.Rights.{is_among, listed_length, gives_link, gives_element, gives_parameter};
 ghost use Rattle.certificate.specs.Rights.{is_same_end};
+ghost use Rattle.certificate.specs.Runs.{IsRunCount};
 
 use crate::modules::Module;
-use crate::runs::{ChannelRun, place_of_word};
+use crate::runs::ChannelRun;
 use bitflags::Flags;
 use module_format::{
     ChannelRow, Direction, EndKind, EndRow, Ends, Interval, Parameter, ParameterKind,
@@ -90,6 +91,19 @@ fn gives_parameter(parameters: &[Parameter], end: &EndRow) -> bool
     }
 }
 
+/// From an element on, how many of a parameter's channels there are, with their ends in this direction.
+fn elements_in(kind: &ParameterKind, element: u32, direction: Direction) -> u32
+    ensures { IsRunCount (λ i. gives_element kind.now (element + i) direction) result }
+{
+    if !gives_element(kind, element, direction) {
+        return 0;
+    }
+    match kind {
+        ParameterKind::Channels { count, .. } => count.saturating_sub(element),
+        _ => 0,
+    }
+}
+
 /// Where an end is among others, which rise. It takes time logarithmic in them.
 pub(crate) fn place_of(others: &[EndRow], end: &EndRow) -> Option<usize>
     requires { InOrder EndKeeps behind_end first_key others.now }
@@ -116,9 +130,11 @@ fn lists_end(others: &[EndRow], end: &EndRow) -> bool
 }
 
 impl Module<'_> {
-    ghost use Rattle.std.specs.Prelude.{◌≡◌, None, MatchOption};
-    ghost use Rattle.module_format.specs.Contexts.{context_at};
-    ghost use Rattle.certificate.specs.Runs.{IsRun, held_from};
+    ghost use Rattle.std.specs.Prelude.{◌≡◌, ◌+◌, None, false, MatchOption};
+    ghost use Rattle.module_format.specs.Contexts.{context_at, parameters_at};
+    ghost use Rattle.certificate.specs.Rights.{gives_parameter};
+    ghost use Rattle.certificate.specs.Runs.{IsFirstRun, IsRun, IsRunCount, held_from, held_further, has_element};
+    ghost use Rattle.certificate.specs.Runs.{branch_lists, element_end};
     ghost use Rattle.certificate.specs.Rights.{has_word, may_write_word, may_read_word, channel_length, has_end};
 
     /// Whether a word is one of a context's frame.
@@ -161,6 +177,20 @@ impl Module<'_> {
         }
     }
 
+    /// The run of channels from that of an end on of which a branch has the ends in this direction; `None` where the
+    /// context is no branch, or has not this end. It takes time logarithmic in the ends.
+    fn run_from(&self, context: u32, end: &EndRow) -> Option<ChannelRun>
+        ensures { let lists = branch_lists self.now context in
+            MatchOption result (lists end.now ≡ false)
+            (IsFirstRun (held_further lists (channel_length self.now context) end.now)) }
+    {
+        self.context(context)?;
+        let (_row, branch) = self.branch(context)?;
+        let place = place_of(&branch.ends, end)?;
+        let runs = self.runs(context)?;
+        Some(runs[place])
+    }
+
     /// The neighbouring channels from the one in a frame word on of which a context has the ends in a direction,
     /// as far as they have one length; `None` where it has no end of that one. The root and the procedures have no
     /// end of a frame word. It takes time logarithmic in the ends of the branch, whatever is around it.
@@ -168,11 +198,52 @@ impl Module<'_> {
         ensures { MatchOption result (held_from self.now context direction word ≡ None)
             (IsRun (held_from self.now context direction) word) }
     {
-        self.context(context)?;
-        let (_row, branch) = self.branch(context)?;
-        let place = place_of_word(&branch.ends, word, direction)?;
-        let runs = self.runs(context)?;
-        Some(runs[place])
+        let kind = EndKind::FrameWord(word);
+        self.run_from(context, &EndRow { kind, direction })
+    }
+
+    /// From an element of a parameter's channels on, how many neighbouring ones there are of which the procedure with
+    /// this context has the ends in a direction.
+    fn elements_given(&self, context: u32, number: i32, element: u32, direction: Direction) -> u32
+        ensures { let parameters = parameters_at self.now context in
+            IsRunCount (λ i. gives_parameter parameters (element_end number (element + i) direction).kind direction)
+            result }
+    {
+        if number < 0 {
+            return 0;
+        }
+        match self.parameters(context).get(number as usize) {
+            Some(parameter) => elements_in(&parameter.kind, element, direction),
+            None => 0,
+        }
+    }
+
+    /// From an element of the channels of a parameter of its procedure on, how many neighbouring ones there are of which
+    /// a context has the ends in a direction; 0 where it has no end of that one. It takes time logarithmic in the ends
+    /// of a branch.
+    pub fn elements_from(
+        &self,
+        context: u32,
+        number: i32,
+        element: u32,
+        direction: Direction,
+    ) -> u32
+        ensures { IsRunCount (has_element self.now context number element direction) result }
+    {
+        if self.context(context).is_none() {
+            return 0;
+        }
+        if self.branch(context).is_none() {
+            if context == 0 {
+                return 0;
+            }
+            return self.elements_given(context, number, element, direction);
+        }
+        let kind = EndKind::Parameter { number, element };
+        match self.run_from(context, &EndRow { kind, direction }) {
+            Some(run) => run.count,
+            None => 0,
+        }
     }
 
     /// What the nearest PAR row says that lists a word, of those around the context. It takes time logarithmic in the

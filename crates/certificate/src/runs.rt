@@ -1,14 +1,14 @@
 //! Runs of neighbouring channels of which a branch has the ends.
 
-ghost use Rattle.std.specs.Prelude.{◌≡◌, ⊤, ◌<◌, ◌+◌, ◌^◌, ◌+ℤ◌, pos, false, MatchOption, IfOk, slice_get, length};
+ghost use Rattle.std.specs.Prelude.{◌≡◌, ⊤, ◌<◌, ◌+◌, ◌^◌, false, MatchOption, IfOk, length};
 ghost use Rattle.std.specs.Ordering.{int_cmp};
 ghost use Rattle.std.specs.BTreeMap.{get};
 ghost use Rattle.module_format.specs.Order.{InOrder};
-ghost use Rattle.module_format.specs.Pars.{EndKeeps, behind_end, first_key};
-ghost use Rattle.certificate.specs.Runs.{word_end, lists_word, HasRun, IsCount, AreRuns};
+ghost use Rattle.module_format.specs.Pars.{EndKeeps, EndKindKeeps, behind_end, first_key};
+ghost use Rattle.certificate.specs.Runs.{further, end_further, lists_end, word_length, HasRun, IsCount, AreRuns};
 
 use crate::rights::place_of;
-use module_format::{Direction, EndKind, EndRow};
+use module_format::{EndKind, EndRow};
 use std::alloc::{AllocError, Global};
 use std::collections::BTreeMap;
 
@@ -21,29 +21,30 @@ pub struct ChannelRun {
     pub length: Option<u32>,
 }
 
-/// Where the end of the channel in a word is among ends, which rise. It takes time logarithmic in them.
-pub(crate) fn place_of_word(ends: &[EndRow], word: i32, direction: Direction) -> Option<usize>
-    requires { InOrder EndKeeps behind_end first_key ends.now }
-    ensures { MatchOption result (lists_word ends.now direction word ≡ false)
-        (λ index. slice_get ends.now index ≡ Some (word_end word direction)) }
+/// The channel after this one, where it has a number.
+fn next_kind(kind: EndKind) -> Option<EndKind>
+    ensures { MatchOption result (EndKindKeeps (further kind 1) → ⊥) (λ next. next ≡ further kind 1) }
 {
-    let kind = EndKind::FrameWord(word);
-    place_of(ends, &EndRow { kind, direction })
+    match kind {
+        EndKind::FrameWord(word) => Some(EndKind::FrameWord(word.checked_add(1)?)),
+        EndKind::Parameter { number, element } => {
+            let element = element.checked_add(1)?;
+            Some(EndKind::Parameter { number, element })
+        }
+        EndKind::Link(link) => Some(EndKind::Link(link.checked_add(1)?)),
+    }
 }
 
-/// The run from the word after this one on, where its end is among those that have their runs.
-fn next_run(
-    ends: &[EndRow],
-    runs: &[ChannelRun],
-    word: i32,
-    direction: Direction,
-) -> Option<ChannelRun>
+/// The run from the channel after this one on, where its end in the same direction is among those that have their runs.
+fn next_run(ends: &[EndRow], runs: &[ChannelRun], end: EndRow) -> Option<ChannelRun>
     requires order { InOrder EndKeeps behind_end first_key ends.now }
     requires many { length runs.now ≡ length ends.now }
-    ensures { MatchOption result (lists_word ends.now direction (word +ℤ pos 1) ≡ false)
-        (λ run. HasRun ends.now runs.now (word +ℤ pos 1) direction run) }
+    ensures { let next = end_further end 1 in
+        MatchOption result (lists_end ends.now next ≡ false) (HasRun ends.now runs.now next) }
 {
-    let index = place_of_word(ends, word.checked_add(1)?, direction)?;
+    let kind = next_kind(end.kind)?;
+    let direction = end.direction;
+    let index = place_of(ends, &EndRow { kind, direction })?;
     Some(runs[index])
 }
 
@@ -58,8 +59,18 @@ fn count_from(length: Option<u32>, next: Option<ChannelRun>) -> u32
     }
 }
 
-/// From each end of a frame word on, the run of channels with ends in its direction, whose lengths the words have.
-/// It takes time n log n in the ends.
+/// The length of a channel in a word, where words have these; no other channel has its own.
+fn length_of(lengths: &BTreeMap<i32, u32>, kind: EndKind) -> Option<u32>
+    ensures { result ≡ word_length (get int_cmp lengths.now) kind }
+{
+    match kind {
+        EndKind::FrameWord(word) => lengths.get(&word).copied(),
+        _ => None,
+    }
+}
+
+/// From the channel of each end on, the run of channels with ends in its direction, where words have these lengths. It
+/// takes time n log n in the ends.
 pub(crate) fn runs_of(
     alloc: Global,
     ends: &[EndRow],
@@ -77,12 +88,10 @@ pub(crate) fn runs_of(
     runs.resize(ends.len(), none)?;
     for index in (0..ends.len()).rev() {
         let end = ends[index];
-        if let EndKind::FrameWord(word) = end.kind {
-            let length = lengths.get(&word).copied();
-            let next = next_run(ends, &runs, word, end.direction);
-            let count = count_from(length, next);
-            runs[index] = ChannelRun { count, length };
-        }
+        let length = length_of(lengths, end.kind);
+        let next = next_run(ends, &runs, end);
+        let count = count_from(length, next);
+        runs[index] = ChannelRun { count, length };
     }
     Ok(runs)
 }
