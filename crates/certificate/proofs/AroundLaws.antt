@@ -68,7 +68,7 @@ in_row (row ∷ rows) (suc s) i x is lt = elim (of_row row row.branches (branche
 
 -- ---- lengths
 
-same_order : (a b : ℤ) → is_eq (int_cmp a b) ≡ (int_le a b && int_le b a)
+pub same_order : (a b : ℤ) → is_eq (int_cmp a b) ≡ (int_le a b && int_le b a)
 same_order a b = by_lt_z a b
     (λ less. rw (← int_cmp_is a b Less less) (grind (arith, ints)))
     (λ ge. by_lt_z b a

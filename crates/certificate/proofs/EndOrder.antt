@@ -106,7 +106,7 @@ pub neither_below : (x y : EndKey) → is_below x y ≡ false → is_below y x �
 neither_below x y a b = grind (arith, nat_tests, ints)
 
 -- what `==` returns for two numbers, and for two keys
-same_number : (a b : ℤ) → int_eq a b ≡ (int_le a b && int_le b a)
+pub same_number : (a b : ℤ) → int_eq a b ≡ (int_le a b && int_le b a)
 same_number a b = same_from_decides _ (int_le a b && int_le b a) (Decides-int_eq a b)
     (λ t. grind (arith, ints), λ e. grind (arith, ints))
 

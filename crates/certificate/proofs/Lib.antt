@@ -9,3 +9,4 @@ pub mod SiblingLaws
 pub mod WordLaws
 pub mod SpanLaws
 pub mod EntryLaws
+pub mod NamedLaws

@@ -10,6 +10,7 @@ use Rattle.certificate.specs.BranchRuns.{AreBranchRuns}
 use Rattle.certificate.specs.Judged.{AreJudged, AreRowsJudged}
 use Rattle.certificate.specs.Owned.{AreAllOwn}
 use Rattle.certificate.specs.Written.{AreWritten}
+use Rattle.certificate.specs.Named.{AreAllNamed}
 
 -- the index of these contents
 pub record IsIndex (c : Contents) (index : Index) : Type 0 where
@@ -19,5 +20,6 @@ pub record IsIndex (c : Contents) (index : Index) : Type 0 where
   pub runs : AreBranchRuns c index.runs.items
   pub own : AreAllOwn c (branch_count c.pars) index.own.items
   pub written : AreWritten c (length c.pars) index.written.items
+  pub named : AreAllNamed c (length c.pars) index.named.items
   pub judged : AreJudged c index.judged.items
   pub judged_rows : AreRowsJudged c index.judged_rows.items

@@ -4,7 +4,7 @@ use Rattle.module_format.specs.Contents.{Contents}
 use Rattle.module_format.specs.Contexts.{first_branch}
 use Rattle.certificate.specs.declared.judged.Judged.{Judged}
 use Rattle.certificate.specs.declared.judged_rows.JudgedRow.{JudgedRow}
-use Rattle.certificate.specs.Starting.{gives_words, label_is_seen, leaves_loops_of, hides_words_of}
+use Rattle.certificate.specs.Starting.{gives_words, label_is_seen, leaves_loops_of, hides_words_of, owns_channels_of}
 use Rattle.certificate.specs.Siblings.{is_beside_first, has_other_ends_than_first, has_ends_of, leaves_own_hidden_words}
 
 -- this was judged of the branch that is context n
@@ -24,6 +24,7 @@ pub record AreJudged (c : Contents) (judged : List Judged) : Type 0 where
 pub record IsRowJudged (c : Contents) (row : ℕ) (judged : JudgedRow) : Type 0 where
   pub loops : judged.leaves_loops ≡ leaves_loops_of c row
   pub hidden : judged.hides_words ≡ hides_words_of c row
+  pub channels : judged.owns_channels ≡ owns_channels_of c row
 
 -- this was judged of a number of PAR rows, the first ones
 pub record AreRowsJudged (c : Contents) (judged : List JudgedRow) : Type 0 where

@@ -11,3 +11,4 @@ pub mod Words
 pub mod Starting
 pub mod Written
 pub mod Owned
+pub mod Named

@@ -125,3 +125,13 @@ hides_words m par = elim (label_at m par.successor) [
 -- so it is with the PAR row of this number
 abbrev pub hides_words_of : Contents → ℕ → Bool
 hides_words_of c row = of_row c row (hides_words c)
+
+-- ---- what a PAR wants where it is opened
+
+-- the context of the PAR may write the words of all its channels
+abbrev pub owns_channels : Contents → Par → Bool
+owns_channels m par = list_all (λ (c : ChannelRow). may_write_word m par.context c.word) par.channels
+
+-- so it is with the PAR row of this number
+abbrev pub owns_channels_of : Contents → ℕ → Bool
+owns_channels_of c row = of_row c row (owns_channels c)

@@ -11,6 +11,7 @@ use crate::branch_runs::branch_runs_of;
 use crate::judged::Judged;
 use crate::judged_rows::JudgedRow;
 use crate::marks::Marks;
+use crate::named::named_of;
 use crate::numbers::numbers_of;
 use crate::owned::{OwnWords, own_words_of};
 use crate::runs::ChannelRun;
@@ -34,6 +35,8 @@ pub(crate) struct Index {
     pub own: Vec<OwnWords>,
     /// For each PAR row, the words that its branches write, as joined intervals.
     pub written: Vec<Vec<Interval>>,
+    /// For each PAR row, the numbers of the parameters that its branches name, each once.
+    pub named: Vec<Vec<i32>>,
     /// What was judged of branches, in the order of their contexts.
     pub judged: Vec<Judged>,
     /// What was judged of PAR rows.
@@ -57,6 +60,7 @@ impl Index {
         let runs = branch_runs_of(alloc, tables, &places)?;
         let own = own_words_of(alloc, tables, &places)?;
         let written = written_of(alloc, tables)?;
+        let named = named_of(alloc, tables)?;
         Ok(Index {
             starts,
             places,
@@ -64,6 +68,7 @@ impl Index {
             runs,
             own,
             written,
+            named,
             judged: Vec::new(alloc),
             judged_rows: Vec::new(alloc),
         })

@@ -6,7 +6,7 @@ ghost use Rattle.certificate.specs.Starting.{is_loop};
 use crate::entries::say_of_hidden;
 use crate::modules::Module;
 use crate::rights::is_among;
-use module_format::{Entry, Fact};
+use module_format::{ChannelRow, Entry, Fact};
 use std::alloc::{AllocError, Global};
 
 /// What is judged of a PAR row.
@@ -16,6 +16,8 @@ pub(crate) struct JudgedRow {
     pub leaves_loops: bool,
     /// Whether the label after the PAR says nothing of the words of its block and its channels.
     pub hides_words: bool,
+    /// Whether the context of the row may write the words of all its channels.
+    pub owns_channels: bool,
 }
 
 /// Whether this is of a loop.
@@ -30,9 +32,11 @@ fn is_loop(fact: Fact) -> bool
 
 impl Module<'_> {
     ghost use Rattle.std.specs.Prelude.{◌≡◌, ◌&&◌, ◌||◌, ◌+ℤ◌, pos, length, IfOk};
-    ghost use Rattle.std.specs.List.{list_any};
+    ghost use Rattle.std.specs.List.{list_any, list_all};
+    ghost use Rattle.module_format.specs.declared.rows.ChannelRow.{ChannelRow};
+    ghost use Rattle.certificate.specs.Rights.{may_write_word};
     ghost use Rattle.certificate.specs.Starting.{is_loop, is_written_in, is_written_loop_in, leaves_loops_of};
-    ghost use Rattle.certificate.specs.Starting.{hides_words_of};
+    ghost use Rattle.certificate.specs.Starting.{hides_words_of, owns_channels_of};
     ghost use Rattle.certificate.specs.Judged.{AreRowsJudged, IsRowJudged};
 
     /// Whether a branch of a PAR row writes a word. It takes time logarithmic in what they write.
@@ -90,6 +94,23 @@ impl Module<'_> {
         }
     }
 
+    /// Whether a context may write the words of these channels.
+    fn writes_channels(&self, context: u32, channels: &[ChannelRow]) -> bool
+        ensures { result ≡ list_all (λ (c : ChannelRow). may_write_word self.now context c.word) channels.now }
+    {
+        channels.iter().all(|channel| self.may_write_word(context, i64::from(channel.word)))
+    }
+
+    /// Whether the context of a PAR row may write the words of all its channels.
+    fn judge_channels(&self, row: usize) -> bool
+        ensures { result ≡ owns_channels_of self.now row }
+    {
+        match self.tables().pars.get(row) {
+            Some(par) => self.writes_channels(u32::from(par.context), &par.channels),
+            None => true,
+        }
+    }
+
     /// Judges a PAR row.
     fn judge_par(&self, row: usize) -> JudgedRow
         ensures { IsRowJudged self.now row result }
@@ -97,6 +118,7 @@ impl Module<'_> {
         JudgedRow {
             leaves_loops: self.judge_loops(row),
             hides_words: self.judge_hidden(row),
+            owns_channels: self.judge_channels(row),
         }
     }
 
@@ -132,6 +154,17 @@ impl Module<'_> {
         match self.judged_row(row) {
             Some(judged) => judged.hides_words,
             None => self.judge_hidden(row),
+        }
+    }
+
+    /// Whether the context of a PAR row may write the words of all its channels. It takes constant time, since that was
+    /// judged when the module was read. Where there is no such row, there are no channels.
+    pub fn owns_channels_of(&self, row: usize) -> bool
+        ensures { result ≡ owns_channels_of self.now row }
+    {
+        match self.judged_row(row) {
+            Some(judged) => judged.owns_channels,
+            None => self.judge_channels(row),
         }
     }
 }

@@ -12,6 +12,7 @@ mod judged;
 mod judged_rows;
 mod marks;
 mod modules;
+mod named;
 mod numbers;
 mod owned;
 mod rights;

@@ -87,6 +87,9 @@ impl<'a> Module<'a> {
     ghost use Rattle.module_format.specs.Contents.{par_of, branch_of};
     ghost use Rattle.module_format.specs.Contexts.{context_at, parameters_at};
     ghost use Rattle.module_format.specs.Places.{owner_at};
+    ghost use Rattle.std.specs.List.Sorted.{IsStrictlySortedBy};
+    ghost use Rattle.std.specs.Ordering.{int_cmp};
+    ghost use Rattle.certificate.specs.Named.{is_one_of, names_parameter_in};
     ghost use Rattle.certificate.specs.Starts.{procedure_at, is_start};
     ghost use Rattle.certificate.specs.Branches.{numbered_branch, branch_at};
     ghost use Rattle.certificate.specs.BranchRuns.{AreRunsAt};
@@ -264,6 +267,19 @@ impl<'a> Module<'a> {
         ensures apart { InOrder IntervalKeeps beyond_interval least_word result.now }
     {
         self.joined_writes(row)
+    }
+
+    /// The numbers of the parameters that the branches of a PAR row name, in rising order, each once: of those that they
+    /// write or read, and of those whose channels they have an end of; none where there is no such row. It takes constant
+    /// time, since they were listed when the module was read.
+    pub fn named_parameters_of(&self, row: usize) -> &[i32]
+        ensures named { (j : ℤ) → is_one_of result.now j ≡ names_parameter_in self.now row j }
+        ensures rise { IsStrictlySortedBy int_cmp result.now }
+    {
+        match self.index.named.get(row) {
+            Some(numbers) => numbers,
+            None => &[],
+        }
     }
 
     /// The branch that begins at a code offset, with the number of its context and its PAR row, found in
