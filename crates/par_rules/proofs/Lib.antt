@@ -3,6 +3,7 @@ pub mod EndsToGive
 pub mod FoundBranches
 pub mod KnownCosts
 pub mod Mapped
+pub mod NamedParameters
 pub mod PairJudged
 pub mod Paying
 pub mod WordTests

@@ -1,6 +1,6 @@
 -- What a PAR wants where its first branch is started: its block, its channels, and the words of the parameters that its
 -- branches name.
-use Rattle.std.specs.Prelude.{ℕ, ◌==◌, ◌&&◌, Bool, true, false, pos, negsuc, ◌+ℤ◌, length, slice_get, Some, None}
+use Rattle.std.specs.Prelude.{ℕ, ◌==◌, ◌&&◌, Bool, true, false, ℤ, pos, negsuc, ◌+ℤ◌, length, slice_get, Some, None}
 use Rattle.std.specs.List.{list_all}
 use Rattle.word_arithmetic.specs.Word.{least_word}
 use Rattle.module_format.specs.declared.fact.Fact.TheVariants.{Pointer, CodeAddress}
@@ -47,6 +47,11 @@ is_as_given m s j = elim (slice_get (parameters_at m s.context) j) [
   | None ↦ false
   | Some p ↦ may_read_word m s.context (pos p.word) && is_start_of j (s.frame (pos p.word))
 ]
+
+-- so is that of the parameter with this number; there is none below 0
+abbrev pub number_is_as_given : Contents → State → ℤ → Bool
+number_is_as_given m s (pos j) = is_as_given m s j
+number_is_as_given m s (negsuc j) = false
 
 -- so is that of the parameter whose channel has this end, if it is a parameter's
 abbrev pub end_is_as_given : Contents → State → EndKind → Bool

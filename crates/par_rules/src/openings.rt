@@ -1,17 +1,21 @@
 //! What a PAR wants where its first branch is started.
 
-ghost use Rattle.std.specs.Prelude.{◌≡◌, ◌&&◌, pos, ◌+ℤ◌, map, length};
+ghost use Rattle.std.specs.Prelude.{◌≡◌, ◌&&◌, pos, ◌+ℤ◌, length};
 ghost use Rattle.std.specs.List.{list_all};
-ghost use Rattle.module_format.specs.Contents.{branch_of, par_of};
+ghost use Rattle.word_arithmetic.specs.Word.{least_word};
+ghost use Rattle.module_format.specs.declared.rows.ChannelRow.{ChannelRow};
+ghost use Rattle.module_format.specs.Contents.{par_of};
 ghost use Rattle.certificate.specs.Rights.{may_write_word};
 ghost use Rattle.states.specs.State.{is_same_number};
 ghost use Rattle.states.specs.Below.{holds_constant};
 ghost use Rattle.states.specs.Views.{state_of};
 ghost use Rattle.par_rules.specs.Openings.{is_code_address, block_is_prepared, channel_is_empty, is_start_of};
-ghost use Rattle.par_rules.specs.Openings.{is_as_given, end_is_as_given, named_are_as_given, is_prepared};
+ghost use Rattle.par_rules.specs.Openings.{is_as_given, number_is_as_given, named_are_as_given, is_prepared};
+ghost use Rattle.par_rules.specs.Finding.{IsInRow};
 
+use crate::found::Found;
 use certificate::Module;
-use module_format::{BranchRow, ChannelRow, EndKind, EndRow, Fact, ParRow, Region, Step};
+use module_format::{ChannelRow, Fact, ParRow, Region, Step};
 use states::{State, WordFact};
 
 /// Whether a word has this number, which is no loop's.
@@ -105,14 +109,6 @@ fn block_is_prepared(module: &Module, state: &State, par: &ParRow) -> bool
     successor_is_there(module, state, par) && branches_are_counted(module, state, par)
 }
 
-/// Whether the word of a channel may be written, and has the least word.
-fn channel_is_empty(module: &Module, state: &State, channel: &ChannelRow) -> bool
-    ensures { result ≡ channel_is_empty «module».now (state_of state.now) channel.now }
-{
-    module.may_write_word(state.context, i64::from(channel.word))
-        && holds_constant(state.fact_at(channel.word), i64::from(i32::MIN))
-}
-
 /// Whether a word is the address of the first byte of what the parameter with this number names.
 fn is_start_of(parameter: usize, fact: WordFact) -> bool
     ensures { result ≡ is_start_of parameter fact }
@@ -143,74 +139,76 @@ fn is_as_given(module: &Module, state: &State, parameter: usize) -> bool
     }
 }
 
-/// The same of the parameter whose channel has this end, if it is a parameter's.
-fn end_is_as_given(module: &Module, state: &State, end: &EndRow) -> bool
-    ensures { result ≡ end_is_as_given «module».now (state_of state.now) end.now.kind }
+/// The same of the parameter with this number; there is none below 0.
+fn number_is_as_given(module: &Module, state: &State, number: i32) -> bool
+    ensures { result ≡ number_is_as_given «module».now (state_of state.now) number }
 {
-    match end.kind {
-        EndKind::Parameter { number, .. } => {
-            number >= 0 && is_as_given(module, state, number.unsigned_abs() as usize)
-        }
-        _ => true,
+    number >= 0 && is_as_given(module, state, number.unsigned_abs() as usize)
+}
+
+/// The same of the parameters with these numbers.
+fn numbers_are_as_given(module: &Module, state: &State, numbers: &[i32]) -> bool
+    ensures { result ≡ list_all (number_is_as_given «module».now (state_of state.now)) numbers.now }
+{
+    numbers
+        .iter()
+        .all(|number| number_is_as_given(module, state, *number))
+}
+
+/// The same of all parameters that the branches of a PAR row name, each of which is asked once.
+fn all_are_as_given(module: &Module, state: &State, found: &Found) -> bool
+    requires { IsInRow «module».now found.now }
+    ensures { let test = named_are_as_given «module».now (state_of state.now) in
+        result ≡ list_all test (par_of found.now.par.now).branches }
+{
+    numbers_are_as_given(module, state, module.named_parameters_of(found.row))
+}
+
+/// Whether a context may write the words of these channels.
+fn writes_channels(module: &Module, context: u32, channels: &[ChannelRow]) -> bool
+    ensures { result ≡ list_all (λ c. may_write_word «module».now context c.word) channels.now }
+{
+    channels.iter().all(|channel| module.may_write_word(context, i64::from(channel.word)))
+}
+
+/// Whether the words of all channels of a PAR row may be written. In the context of the row it takes constant time.
+fn owns_channels(module: &Module, state: &State, found: &Found) -> bool
+    requires { IsInRow «module».now found.now }
+    ensures { let context = (state_of state.now).context in
+        result ≡ list_all (λ (c : ChannelRow). may_write_word «module».now context c.word)
+        (par_of found.now.par.now).channels }
+{
+    if u32::from(found.par.context) == state.context {
+        module.owns_channels_of(found.row)
+    } else {
+        writes_channels(module, state.context, &found.par.channels)
     }
 }
 
-/// The same of all these parameters.
-fn are_as_given(module: &Module, state: &State, parameters: &[u16]) -> bool
-    ensures { result ≡ list_all (is_as_given «module».now (state_of state.now)) parameters.now }
-{
-    parameters.iter().all(|parameter| is_as_given(module, state, usize::from(*parameter)))
-}
-
-/// The same of all parameters whose channels have these ends.
-fn ends_are_as_given(module: &Module, state: &State, ends: &[EndRow]) -> bool
+/// Whether the words of all channels have the least word.
+fn channels_are_least(state: &State, channels: &[ChannelRow]) -> bool
     ensures { let s = state_of state.now in
-        result ≡ list_all (λ e. end_is_as_given «module».now s e.kind) ends.now }
+        result ≡ list_all (λ c. holds_constant (s.frame c.word) least_word) channels.now }
 {
-    ends.iter().all(|end| end_is_as_given(module, state, end))
+    channels.iter().all(|channel| holds_constant(state.fact_at(channel.word), i64::from(i32::MIN)))
 }
 
-/// The same of all parameters that a branch names.
-fn named_are_as_given(module: &Module, state: &State, branch: &BranchRow) -> bool
-    ensures { result ≡ named_are_as_given «module».now (state_of state.now) (branch_of branch.now) }
+/// Whether the words of all channels of a PAR row may be written, and have the least word.
+fn channels_are_empty(module: &Module, state: &State, found: &Found) -> bool
+    requires { IsInRow «module».now found.now }
+    ensures { let p = par_of found.now.par.now in
+        result ≡ list_all (channel_is_empty «module».now (state_of state.now)) p.channels }
 {
-    are_as_given(module, state, &branch.written_parameters)
-        && are_as_given(module, state, &branch.read_parameters)
-        && ends_are_as_given(module, state, &branch.ends)
+    owns_channels(module, state, found) && channels_are_least(state, &found.par.channels)
 }
 
-/// The same of all parameters that the branches in these rows name.
-fn rows_are_as_given(module: &Module, state: &State, rows: &[BranchRow]) -> bool
-    ensures { let test = named_are_as_given «module».now (state_of state.now) in
-        result ≡ list_all (λ row. test (branch_of row)) rows.now }
+/// Whether all is prepared that a PAR wants. It takes the time of a look-up for each channel and for each parameter
+/// that a branch names.
+pub(crate) fn is_prepared(module: &Module, state: &State, found: &Found) -> bool
+    requires { IsInRow «module».now found.now }
+    ensures { result ≡ is_prepared «module».now (state_of state.now) (par_of found.now.par.now) }
 {
-    rows.iter()
-        .all(|branch| named_are_as_given(module, state, branch))
-}
-
-/// The same of all parameters that some branches name.
-#[tactic(auto, using(crate::proofs::Mapped::all_of_mapped))]
-fn all_are_as_given(module: &Module, state: &State, branches: &[BranchRow]) -> bool
-    ensures { let test = named_are_as_given «module».now (state_of state.now) in
-        result ≡ list_all test (map branch_of branches.now) }
-{
-    rows_are_as_given(module, state, branches)
-}
-
-/// Whether the words of all channels may be written, and have the least word.
-fn channels_are_empty(module: &Module, state: &State, channels: &[ChannelRow]) -> bool
-    ensures { result ≡ list_all (channel_is_empty «module».now (state_of state.now)) channels.now }
-{
-    channels
-        .iter()
-        .all(|channel| channel_is_empty(module, state, channel))
-}
-
-/// Whether all is prepared that a PAR wants.
-pub(crate) fn is_prepared(module: &Module, state: &State, par: &ParRow) -> bool
-    ensures { result ≡ is_prepared «module».now (state_of state.now) (par_of par.now) }
-{
-    block_is_prepared(module, state, par)
-        && channels_are_empty(module, state, &par.channels)
-        && all_are_as_given(module, state, &par.branches)
+    block_is_prepared(module, state, found.par)
+        && channels_are_empty(module, state, found)
+        && all_are_as_given(module, state, found)
 }

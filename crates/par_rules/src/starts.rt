@@ -144,7 +144,7 @@ fn may_open(module: &Module, state: &State, found: &Found) -> bool
     requires { IsInRow «module».now found.now }
     ensures { result ≡ may_open «module».now (state_of state.now) (par_of found.now.par.now) }
 {
-    if !is_prepared(module, state, found.par) {
+    if !is_prepared(module, state, found) {
         return false;
     }
     match module.label_at(found.par.successor) {
