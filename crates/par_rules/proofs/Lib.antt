@@ -2,7 +2,6 @@ pub mod BranchCosts
 pub mod EndsToGive
 pub mod FoundBranches
 pub mod KnownCosts
-pub mod Mapped
 pub mod NamedParameters
 pub mod PairJudged
 pub mod Paying
