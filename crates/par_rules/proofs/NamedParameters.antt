@@ -12,7 +12,7 @@ use Rattle.module_format.specs.declared.rows.EndKind.TheVariants as ends
 use Rattle.module_format.specs.declared.rows.EndRow.{EndRow}
 use Rattle.module_format.specs.Contents.{Contents, Branch, Par}
 use Rattle.states.specs.State.{State}
-use Rattle.certificate.specs.Named.{is_one_of, is_parameter_of, is_of_parameter, is_end_of, names_parameter}
+use Rattle.certificate.specs.Named.{is_one_of, is_parameter_of, is_of_parameter, names_parameter}
 use Rattle.certificate.specs.Named.{names_parameter_in}
 use Rattle.par_rules.specs.Openings.{is_as_given, number_is_as_given, end_is_as_given, named_are_as_given}
 
