@@ -4,6 +4,7 @@ pub mod CallTests
 pub mod CallsFit
 pub mod EndRuns
 pub mod OneName
+pub mod PassedOnce
 pub mod Passing
 pub mod Resuming
 pub mod Touching

@@ -1,7 +1,7 @@
 -- What a call may change of its caller's frame.
 use Rattle.std.proofs.Common.{◌≡◌, ℕ, ◌+◌, ◌/◌, ◌≤◌, ℤ, pos, negsuc, ◌+ℤ◌, Bool, true, false, cond, ◌&&◌, List, []}
 use Rattle.std.proofs.Common.{◌∷◌, length, map, Option, Some, None, refl, sym, ap, ◌∙◌, subst, arith, is_some}
-use Rattle.std.specs.Prelude.{slice_get, ◌||◌, int_le, IfSome}
+use Rattle.std.specs.Prelude.{slice_get, ◌||◌, int_le, IfSome, if◌then◌else◌}
 use Rattle.std.specs.List.{list_all, AllByRecursion}
 use Rattle.std.proofs.lemmas.Int.{ints}
 use Rattle.std.proofs.lemmas.Bool.{and_parts, and_from}
@@ -40,10 +40,13 @@ use Rattle.call_rules.specs.CallRules as rule
 use Rattle.call_rules.specs.CallRules.{Calling, given, lent, lent_to, lent_from, pointers_fit, may_lend, lent_end}
 use Rattle.call_rules.specs.CallRules.{frame_size, with_all_lent, learns_word, passing, callee_word, frame_is_own}
 use Rattle.call_rules.specs.CallRules.{is_off_callee, each_two, behind_call, callee_span, calls_procedure, passes_all}
-use Rattle.call_rules.specs.CallRules.{spends, may_call, give_other_ends}
+use Rattle.call_rules.specs.CallRules.{spends, may_call, kinds_give_other_ends, words_fit}
+use Rattle.rulings.specs.Pointers.{is_near}
 use Rattle.rulings.specs.Rulings.{wants, Ruling, Site, alone, calls}
 use Rattle.call_rules.specs.declared.calling.Touched.{Touched}
+use Rattle.call_rules.specs.declared.passed.Passed.{Passed}
 use Rattle.call_rules.specs.Callings.{with_each, OwnsWords, OwnsLent, Touches, admits, entered, brings_channels}
+use Rattle.call_rules.specs.Callings.{are_passed_other_ends}
 use Rattle.rulings.proofs.Reaching.{word_of_byte_low, word_of_byte_high, touched_passes}
 use Rattle.call_rules.proofs.CallTests.{lend_parts, lent_fact}
 
@@ -213,28 +216,68 @@ off_no c first count a b d f a_is b_is high d_is f_is =
     ∙ sym (ap (λ (t : Bool). t || int_le (callee_word c.state c.callee.hi) first)
     (sym (ap (λ (z : ℤ). int_le z b) a_is ∙ ap (int_le (first +ℤ pos count)) b_is) ∙ high))
 
+-- ---- what may be lent
+
+-- What is not near may not be lent.
+pub far_lent : (c : Calling) (l : Lent) (near : Bool) → near ≡ is_near l.first → near ≡ false → false ≡ may_lend c l
+unfolding may_lend
+far_lent c l near near_is far =
+    sym (ap (λ (b : Bool). b && rule.may_use c l && (if is_frame l.region then words_fit c l else true))
+    (sym near_is ∙ far))
+
+-- What is near is lent if it may be used so, and suits where it is of the frame.
+near_lent : (c : Calling) (l : Lent) (near used : Bool) → near ≡ is_near l.first → near ≡ true
+    → used ≡ rule.may_use c l → may_lend c l ≡ (used && (if is_frame l.region then words_fit c l else true))
+unfolding may_lend
+near_lent c l near used near_is is_near used_is =
+    ap (λ (b : Bool). b && rule.may_use c l && (if is_frame l.region then words_fit c l else true))
+    (sym near_is ∙ is_near)
+    ∙ ap (λ (b : Bool). b && (if is_frame l.region then words_fit c l else true)) (sym used_is)
+
+-- What may not be used so may not be lent.
+pub barred_lent : (c : Calling) (l : Lent) (near used : Bool) → near ≡ is_near l.first → near ≡ true
+    → used ≡ rule.may_use c l → used ≡ false → false ≡ may_lend c l
+barred_lent c l near used near_is is_near used_is barred =
+    sym (near_lent c l near used near_is is_near used_is
+    ∙ ap (λ (b : Bool). b && (if is_frame l.region then words_fit c l else true)) barred)
+
+not_frame : (region : Region) → (region ≡ regions.Frame → ⊥) → is_frame region ≡ false
+not_frame regions.Frame other = absurd (other refl)
+not_frame regions.Constants other = refl
+not_frame (regions.Parameter j) other = refl
+
+-- What is not of the frame may be lent if it is near and may be used so.
+pub other_lent : (c : Calling) (l : Lent) (near used : Bool) → near ≡ is_near l.first → near ≡ true
+    → used ≡ rule.may_use c l → used ≡ true → (l.region ≡ regions.Frame → ⊥) → true ≡ may_lend c l
+other_lent c l near used near_is is_near used_is may other =
+    sym (near_lent c l near used near_is is_near used_is
+    ∙ ap (λ (b : Bool). b && (if is_frame l.region then words_fit c l else true)) may
+    ∙ ap (λ (b : Bool). if b then words_fit c l else true) (not_frame l.region other))
+
 -- ---- each two parameters
 
-pub two_more : (test : Parameter → Parameter → Bool) (p : Parameter) (rest others : List Parameter) (whole : Bool)
+-- The others still do as all did, if the first passes with each of them.
+pub two_more : {A : Type 0} (test : A → A → Bool) (p : A) (rest others : List A) (whole : Bool)
     → rest ≡ p ∷ others → list_all (test p) others ≡ true → each_two test rest ≡ whole → each_two test others ≡ whole
 two_more test p rest others whole is all h =
     sym (ap (each_two test) is ∙ ap (λ (b : Bool). b && each_two test others) all) ∙ h
 
 -- Only a parameter that brings channels may be given an end that another is given.
-gives_none : (c : Calling) (q : Parameter) (word : ℕ) (kind : ParameterKind) → brings_channels kind ≡ false
-    → give_other_ends c (record { word = word; kind = kind }) q ≡ true
-unfolding give_other_ends
-gives_none c q word (Value lo hi) other = refl
-gives_none c q word (ReadRegion size lo hi) other = refl
-gives_none c q word (WrittenRegion size lo hi) other = refl
-gives_none c q word (Channels count len ends) other = absurd (cc)
+gives_none : (kind : ParameterKind) (fact : WordFact) (other : ParameterKind) (other_fact : WordFact)
+    → brings_channels kind ≡ false → kinds_give_other_ends kind fact other other_fact ≡ true
+gives_none (Value lo hi) fact other other_fact none = refl
+gives_none (ReadRegion size lo hi) fact other other_fact none = refl
+gives_none (WrittenRegion size lo hi) fact other other_fact none = refl
+gives_none (Channels count len ends) fact other other_fact none = absurd (cc)
 
-pub gives_none_of_each : (c : Calling) (p : Parameter) (qs : List Parameter) → brings_channels p.kind ≡ false
-    → list_all (give_other_ends c p) qs ≡ true
-gives_none_of_each c p [] other = refl
-gives_none_of_each c p (q ∷ qs) other =
-    and_from (give_other_ends c p q) (list_all (give_other_ends c p) qs) (gives_none c q p.word p.kind other)
-    (gives_none_of_each c p qs other)
+-- The same of some others.
+pub gives_none_of_each : (x : Passed) (ys : List Passed) → brings_channels x.parameter.kind ≡ false
+    → list_all (are_passed_other_ends x) ys ≡ true
+gives_none_of_each x [] none = refl
+gives_none_of_each x (y ∷ ys) none =
+    and_from (are_passed_other_ends x y) (list_all (are_passed_other_ends x) ys)
+    (gives_none x.parameter.kind x.fact y.parameter.kind y.fact none)
+    (gives_none_of_each x ys none)
 
 -- ---- the code's steps
 

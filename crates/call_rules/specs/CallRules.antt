@@ -224,13 +224,13 @@ lengths_fit c p = elim p.kind [
   | _ ↦ true
 ]
 
--- no end is given to both parameters
-unfoldable pub give_other_ends : Calling → Parameter → Parameter → Bool
-give_other_ends c p q = elim p.kind [
-  | Channels count len ends ↦ elim q.kind [
-    | Channels more length others ↦ elim (channel_of (given c p)) [
+-- no end is given to both of two parameters, which are of these kinds and are passed these
+abbrev pub kinds_give_other_ends : ParameterKind → WordFact → ParameterKind → WordFact → Bool
+kinds_give_other_ends kind fact other_kind other_fact = elim kind [
+  | Channels count len ends ↦ elim other_kind [
+    | Channels more length others ↦ elim (channel_of fact) [
       | None ↦ true
-      | Some first ↦ elim (channel_of (given c q)) [
+      | Some first ↦ elim (channel_of other_fact) [
         | None ↦ true
         | Some other ↦ (bit_and ends.0 others.0 == 0) || not (channels_meet first count other more)
       ]
@@ -239,6 +239,10 @@ give_other_ends c p q = elim p.kind [
   ]
   | _ ↦ true
 ]
+
+-- no end is given to both parameters
+unfoldable pub give_other_ends : Calling → Parameter → Parameter → Bool
+give_other_ends c p q = kinds_give_other_ends p.kind (given c p) q.kind (given c q)
 
 unfoldable pub ends_are_given : Calling → Bool
 ends_are_given c = list_all (ends_are_held c) c.callee.parameters && each_two (give_other_ends c) c.callee.parameters

@@ -6,7 +6,8 @@ ghost use Rattle.call_rules.specs.CallRules.{is_near_fact};
 ghost use Rattle.rulings.specs.Telling.{Admits};
 
 use crate::calls::may_call;
-use crate::lent::{Lent, all_are_apart, lent_to};
+use crate::lent::{Lent, all_are_apart};
+use crate::passed::{Passed, all_lent};
 use arrayvec::ArrayVec;
 use module_format::{Fact, Parameter, ParameterKind, ProcedureRow, Region};
 use rulings::Place;
@@ -60,7 +61,7 @@ fn is_near_fact(fact: WordFact) -> bool
 
 impl Calling<'_, '_, '_, '_> {
     ghost use Rattle.std.specs.Prelude.{◌≡◌, ◌≤◌, ◌/◌, ℕ, length, map, slice_get, is_some, IfSome, IfOk, Some, true};
-    ghost use Rattle.std.specs.List.{list_all};
+    ghost use Rattle.std.specs.List.{list_all, AllByRecursion};
     ghost use Rattle.module_format.specs.declared.fact.Region.TheVariants as regions;
     ghost use Rattle.module_format.specs.Contents.{procedure_of};
     ghost use Rattle.module_format.specs.Contexts.{parameters_at};
@@ -73,7 +74,7 @@ impl Calling<'_, '_, '_, '_> {
     ghost use Rattle.call_rules.specs.CallRules.{regions_are_apart};
     ghost use Rattle.rulings.specs.Rulings.{wants};
     ghost use Rattle.states.specs.declared.rule.Rule.TheVariants.{OwnWord};
-    ghost use Rattle.call_rules.specs.Callings.{calling_of, admits, Touches, fits};
+    ghost use Rattle.call_rules.specs.Callings.{calling_of, passed_to, IsPassedSo, admits, Touches, fits};
     ghost use Rattle.rulings.specs.Telling.{Admits};
 
     /// The caller's word that is a word of the callee's frame.
@@ -96,20 +97,6 @@ impl Calling<'_, '_, '_, '_> {
         }
     }
 
-    /// What a parameter is lent.
-    pub fn lent(&self, parameter: &Parameter) -> Option<Lent>
-        ensures { result ≡ lent (calling_of self.now) parameter.now }
-    {
-        lent_to(parameter.kind, self.given(parameter))
-    }
-
-    /// What is known together of the words of the frame that are lent.
-    fn lent_words(&self, lent: Lent) -> Together
-        ensures { result ≡ lent_words (calling_of self.now) lent }
-    {
-        self.state.together(lent.first_word(), lent.word_count())
-    }
-
     /// Whether the range of the region of a parameter of the caller suits the callee.
     fn parameter_suits(&self, lent: Lent, number: u16) -> bool
         ensures { let parameters = parameters_at self.now.place.module.now self.now.state.now.context in
@@ -127,16 +114,14 @@ impl Calling<'_, '_, '_, '_> {
         }
     }
 
-    /// Whether the numbers that are known of what is lent suit the callee.
+    /// Whether the numbers that are known of what is lent, together of words of the frame, suit the callee.
     #[tactic(auto, unfolding(crate::specs::CallRules::numbers_suit))]
-    fn numbers_suit(&self, lent: Lent) -> bool
+    fn numbers_suit(&self, lent: Lent, words: Together) -> bool
+        requires { lent.region ≡ regions.Frame → words ≡ lent_words (calling_of self.now) lent }
         ensures { result ≡ numbers_suit (calling_of self.now) lent }
     {
         match lent.region {
-            Region::Frame => {
-                let words = self.lent_words(lent);
-                lent.takes(words.lo, words.hi)
-            }
+            Region::Frame => lent.takes(words.lo, words.hi),
             Region::Constants => {
                 let range = self.place.constant_range(lent.first, lent.end());
                 lent.takes(range.lo, range.hi)
@@ -147,15 +132,14 @@ impl Calling<'_, '_, '_, '_> {
 
     /// Whether a parameter is passed a number in its range, or what it is lent has numbers that suit.
     #[tactic(auto, unfolding(crate::specs::CallRules::numbers_fit))]
-    fn numbers_fit(&self, parameter: &Parameter) -> bool
-        ensures { result ≡ numbers_fit (calling_of self.now) parameter.now }
+    fn numbers_fit(&self, passed: &Passed) -> bool
+        requires { IsPassedSo (calling_of self.now) passed.now }
+        ensures { result ≡ numbers_fit (calling_of self.now) passed.now.parameter }
     {
-        match parameter.kind {
-            ParameterKind::Value { lo, hi } => {
-                implies(self.given(parameter).plain(), Fact::Number { lo, hi })
-            }
-            _ => match self.lent(parameter) {
-                Some(lent) => self.numbers_suit(lent),
+        match passed.parameter.kind {
+            ParameterKind::Value { lo, hi } => implies(passed.plain, Fact::Number { lo, hi }),
+            _ => match passed.lent {
+                Some(lent) => self.numbers_suit(lent, passed.words),
                 None => true,
             },
         }
@@ -222,64 +206,83 @@ impl Calling<'_, '_, '_, '_> {
     /// Whether words of the frame that are lent are numbers, where they are written in no loop, and none of the
     /// callee's frame.
     #[tactic(auto, unfolding(crate::specs::CallRules::words_fit))]
-    fn words_fit(&self, lent: Lent) -> bool
+    fn words_fit(&self, lent: Lent, words: Together) -> bool
+        requires { words ≡ lent_words (calling_of self.now) lent }
         ensures { result ≡ words_fit (calling_of self.now) lent }
     {
-        let words = self.lent_words(lent);
         words.are_numbers && (!lent.is_written || words.are_alone) && self.is_off_callee(lent)
     }
 
     /// Whether what is lent may be used so, and is of the frame only numbers that the callee's frame does not hold.
     #[tactic(auto, unfolding(crate::specs::CallRules::may_lend))]
-    fn may_lend(&self, lent: Lent) -> bool
-        requires { BelongsTo self.now.place.module.now self.now.state.now }
+    fn may_lend(&self, lent: Lent, words: Together) -> bool
+        requires belongs { BelongsTo self.now.place.module.now self.now.state.now }
+        requires words { lent.region ≡ regions.Frame → words ≡ lent_words (calling_of self.now) lent }
         ensures { result ≡ may_lend (calling_of self.now) lent }
     {
         if !is_near(i64::from(lent.first)) || !self.may_use(lent) {
             return false;
         }
-        !lent.region.is_frame() || self.words_fit(lent)
+        match lent.region {
+            Region::Frame => self.words_fit(lent, words),
+            _ => true,
+        }
     }
 
     /// Whether a parameter that names a region is lent one.
     #[tactic(auto, unfolding(crate::specs::CallRules::pointers_fit))]
-    fn pointers_fit(&self, parameter: &Parameter) -> bool
-        requires { BelongsTo self.now.place.module.now self.now.state.now }
-        ensures { result ≡ pointers_fit (calling_of self.now) parameter.now }
+    fn pointers_fit(&self, passed: &Passed) -> bool
+        requires belongs { BelongsTo self.now.place.module.now self.now.state.now }
+        requires passed { IsPassedSo (calling_of self.now) passed.now }
+        ensures { result ≡ pointers_fit (calling_of self.now) passed.now.parameter }
     {
-        match parameter.kind {
+        match passed.parameter.kind {
             ParameterKind::Value { .. } => true,
-            ParameterKind::Channels { .. } => is_near_fact(self.given(parameter)),
-            _ => match self.lent(parameter) {
-                Some(lent) => self.may_lend(lent),
+            ParameterKind::Channels { .. } => is_near_fact(passed.fact),
+            _ => match passed.lent {
+                Some(lent) => self.may_lend(lent, passed.words),
                 None => false,
             },
         }
     }
 
     /// Whether a parameter is passed what is wanted.
-    fn fits(&self, wanted: Wanted, parameter: &Parameter) -> bool
-        requires { BelongsTo self.now.place.module.now self.now.state.now }
-        ensures { result ≡ fits wanted (calling_of self.now) parameter.now }
+    fn fits(&self, wanted: Wanted, passed: &Passed) -> bool
+        requires belongs { BelongsTo self.now.place.module.now self.now.state.now }
+        requires passed { IsPassedSo (calling_of self.now) passed.now }
+        ensures { result ≡ fits wanted (calling_of self.now) passed.now.parameter }
     {
         match wanted {
-            Wanted::Numbers => self.numbers_fit(parameter),
-            Wanted::Pointers => self.pointers_fit(parameter),
-            Wanted::Ends => self.ends_are_held(parameter),
-            Wanted::Lengths => self.lengths_fit(parameter),
+            Wanted::Numbers => self.numbers_fit(passed),
+            Wanted::Pointers => self.pointers_fit(passed),
+            Wanted::Ends => self.ends_are_held(passed),
+            Wanted::Lengths => self.lengths_fit(passed),
         }
     }
 
-    fn all_fit(&self, wanted: Wanted) -> bool
-        requires { BelongsTo self.now.place.module.now self.now.state.now }
-        ensures { let call = calling_of self.now in result ≡ list_all (fits wanted call) call.callee.parameters }
+    /// Whether each of these parameters is passed what is wanted.
+    fn each_fits(&self, wanted: Wanted, all: &[Passed]) -> bool
+        requires belongs { BelongsTo self.now.place.module.now self.now.state.now }
+        requires passed { AllByRecursion (IsPassedSo (calling_of self.now)) all.now }
+        ensures { result ≡ list_all (λ x. fits wanted (calling_of self.now) x.parameter) all.now }
     {
-        for parameter in &self.callee.parameters {
-            if !self.fits(wanted, parameter) {
+        let mut rest = all;
+        while let Some((first, others)) = rest.split_first() {
+            if !self.fits(wanted, first) {
                 return false;
             }
+            rest = others;
         }
         true
+    }
+
+    /// Whether each parameter is passed what is wanted.
+    fn all_fit(&self, wanted: Wanted, all: &[Passed]) -> bool
+        requires belongs { BelongsTo self.now.place.module.now self.now.state.now }
+        requires passed { let call = calling_of self.now in all.now ≡ map (passed_to call) call.callee.parameters }
+        ensures { let call = calling_of self.now in result ≡ list_all (fits wanted call) call.callee.parameters }
+    {
+        self.each_fits(wanted, all)
     }
 
     /// Whether no region that is written meets another, if the parameters are lent this.
@@ -290,21 +293,22 @@ impl Calling<'_, '_, '_, '_> {
         all_are_apart(all)
     }
 
-    /// What is passed suits the parameters, which are lent this.
+    /// What is passed suits the parameters, which are passed this and lent this.
     #[tactic(auto, unfolding(crate::specs::CallRules::ends_are_given))]
-    fn passes_all(&self, all: &[Option<Lent>]) -> Result<(), Rule>
+    fn passes_all(&self, all: &[Passed], each_lent: &[Option<Lent>]) -> Result<(), Rule>
         requires belongs { BelongsTo self.now.place.module.now self.now.state.now }
-        requires lent { let call = calling_of self.now in all.now ≡ map (lent call) call.callee.parameters }
+        requires passed { let call = calling_of self.now in all.now ≡ map (passed_to call) call.callee.parameters }
+        requires lent { let call = calling_of self.now in each_lent.now ≡ map (lent call) call.callee.parameters }
         ensures test { Admits result (passes_all (calling_of self.now)) }
         ensures pointers { let call = calling_of self.now in
             IfOk result (λ _. list_all (pointers_fit call) call.callee.parameters ≡ true) }
     {
-        wants(self.all_fit(Wanted::Numbers), Rule::Number)?;
-        wants(self.all_fit(Wanted::Pointers), Rule::Pointer)?;
-        wants(self.regions_are_apart(all), Rule::RegionsMeet)?;
-        let ends = self.all_fit(Wanted::Ends) && self.ends_are_apart();
+        wants(self.all_fit(Wanted::Numbers, all), Rule::Number)?;
+        wants(self.all_fit(Wanted::Pointers, all), Rule::Pointer)?;
+        wants(self.regions_are_apart(each_lent), Rule::RegionsMeet)?;
+        let ends = self.all_fit(Wanted::Ends, all) && self.ends_are_apart(all);
         wants(ends, Rule::Channel)?;
-        wants(self.all_fit(Wanted::Lengths), Rule::MessageLength)
+        wants(self.all_fit(Wanted::Lengths, all), Rule::MessageLength)
     }
 
     /// How many words the callee's frame has.
@@ -347,23 +351,12 @@ impl Calling<'_, '_, '_, '_> {
         }
     }
 
-    /// What each parameter is lent.
-    fn all_lent(&self) -> ArrayVec<Option<Lent>, MAX_LENT>
-        requires { length self.now.callee.now.parameters.items ≤ 64 }
-        ensures { let call = calling_of self.now in result.items ≡ map (lent call) call.callee.parameters }
-    {
-        let mut all = ArrayVec::new();
-        for parameter in &self.callee.parameters {
-            all.push(self.lent(parameter));
-        }
-        all
-    }
-
     /// The caller may call the procedure, which has this number as a context, and pass it what it passes, by which it
     /// lends this. Returns the first word of the callee's frame.
-    fn admits(&self, all: &[Option<Lent>], context: u32) -> Result<i32, Rule>
+    fn admits(&self, all: &[Passed], each_lent: &[Option<Lent>], context: u32) -> Result<i32, Rule>
         requires belongs { BelongsTo self.now.place.module.now self.now.state.now }
-        requires lent { let call = calling_of self.now in all.now ≡ map (lent call) call.callee.parameters }
+        requires passed { let call = calling_of self.now in all.now ≡ map (passed_to call) call.callee.parameters }
+        requires lent { let call = calling_of self.now in each_lent.now ≡ map (lent call) call.callee.parameters }
         requires some { 1 ≤ frame_size (procedure_of self.now.callee.now) }
         ensures test { Admits result (admits (calling_of self.now) context) }
         ensures pointers { let call = calling_of self.now in
@@ -372,7 +365,7 @@ impl Calling<'_, '_, '_, '_> {
         ensures room { IfOk result (λ k. CanWriteSpan self.now.state.now k
             (frame_size (procedure_of self.now.callee.now))) }
     {
-        self.passes_all(all)?;
+        self.passes_all(all, each_lent)?;
         alone(self.state.mode)?;
         wants(
             may_call(&self.place, self.state.context, context),
@@ -382,17 +375,18 @@ impl Calling<'_, '_, '_, '_> {
     }
 
     /// The caller may call the procedure, which has this number as a context, and pass it what it passes. Returns what
-    /// the call may change. What each parameter is lent is found once, before any two are compared.
-    pub fn touched(&self, context: u32) -> Result<Touched, Rule>
+    /// the call may change.
+    pub fn touched(&self, all: &[Passed], context: u32) -> Result<Touched, Rule>
         requires belongs { BelongsTo self.now.place.module.now self.now.state.now }
+        requires passed { let call = calling_of self.now in all.now ≡ map (passed_to call) call.callee.parameters }
         requires row { let procedure = procedure_of self.now.callee.now in
             (p : ℕ) × (slice_get self.now.place.module.now.procedures p ≡ Some procedure) }
         ensures test { Admits result (admits (calling_of self.now) context) }
         ensures touched { IfOk result (Touches (calling_of self.now)) }
         ensures room { IfOk result (λ t. CanWriteSpan self.now.state.now t.first t.count) }
     {
-        let lent = self.all_lent();
-        let first = self.admits(&lent, context)?;
+        let lent = all_lent(all);
+        let first = self.admits(all, &lent, context)?;
         Ok(Touched {
             first,
             count: self.frame_size(),

@@ -1,6 +1,6 @@
 //! The rules of calls and returns: what a call wants of what is passed, and what is known after it.
 
-ghost use Rattle.std.specs.Prelude.{◌≡◌, ◌+◌, ◌<◌, ℕ, slice_get, IfOk, Some};
+ghost use Rattle.std.specs.Prelude.{◌≡◌, ◌+◌, ◌<◌, ℕ, map, slice_get, IfOk, Some};
 ghost use Rattle.std.specs.List.{AllByRecursion};
 ghost use Rattle.module_format.specs.Contents.{Contents, procedure_of};
 ghost use Rattle.certificate.specs.Starts.{procedure_at};
@@ -13,13 +13,14 @@ ghost use Rattle.states.specs.Spans.{on_span};
 ghost use Rattle.states.specs.Views.{state_of, BelongsTo, CanWriteSpan};
 ghost use Rattle.call_rules.specs.CallRules.{call_rule, return_rule, learns_word, passing, may_call, may_return, spends};
 ghost use Rattle.call_rules.specs.CallRules.{with_lent, calls_procedure};
-ghost use Rattle.call_rules.specs.Callings.{with_each, OwnsLent, admits, Touches, call_in, entered};
+ghost use Rattle.call_rules.specs.Callings.{with_each, OwnsLent, admits, Touches, call_in, entered, passed_to};
 ghost use Rattle.rulings.specs.Places.{site_of};
 ghost use Rattle.rulings.specs.Telling.{Admits, Advances, Leaves};
 
 use crate::calling::{Calling, Touched};
 use crate::lent::Lent;
-use module_format::{Fact, Parameter, ProcedureRow, Stack};
+use crate::passed::{Passed, all_passed};
+use module_format::{Fact, ProcedureRow, Stack};
 use rulings::combinators::alone;
 use rulings::{Continuation, Place};
 use states::{Known, Leaving, Rule, State, WordFact};
@@ -144,48 +145,25 @@ fn calls_procedure(
     ensures belongs { BelongsTo place.now.module.now state.new }
 {
     passing(place, state);
-    let touched = touched(place, state, context, callee)?;
+    let all = all_passed(place, state, callee);
+    let touched = touched(place, state, callee, &all, context)?;
     has_returned(place, state, &touched);
     spends(place, state, callee.number)?;
     Ok(Continuation::Calls { to })
 }
 
-/// The words of the frame that a parameter is lent are summed from now on.
-fn sums_lent(place: &Place, state: &mut State, callee: &ProcedureRow, parameter: &Parameter)
-    ensures state { state_of state.new ≡ state_of state.old }
-    ensures belongs { (m : Contents) → BelongsTo m state.old → BelongsTo m state.new }
-{
-    let calling = Calling {
-        place: *place,
-        state,
-        callee,
-    };
-    if let Some(lent) = calling.lent(parameter) {
-        if lent.region.is_frame() {
-            state.sum_words(lent.first_word(), lent.word_count());
-        }
-    }
-}
-
-/// The words of the frame that a call lends are summed from now on.
-fn sums_all_lent(place: &Place, state: &mut State, callee: &ProcedureRow)
-    ensures state { state_of state.new ≡ state_of state.old }
-    ensures belongs { (m : Contents) → BelongsTo m state.old → BelongsTo m state.new }
-{
-    for parameter in &callee.parameters {
-        sums_lent(place, state, callee, parameter);
-    }
-}
-
 /// What the call of a procedure, which has this number as a context, may change, once what is passed is in the
-/// words below the workspace.
+/// words below the workspace, and its parameters are passed this.
 fn touched(
     place: &Place,
     state: &State,
-    context: u32,
     callee: &ProcedureRow,
+    all: &[Passed],
+    context: u32,
 ) -> Result<Touched, Rule>
     requires belongs { BelongsTo place.now.module.now state.now }
+    requires passed { let call = call_in place.now.module.now state.now callee.now in
+        all.now ≡ map (passed_to call) call.callee.parameters }
     requires row { let procedure = procedure_of callee.now in
         (p : ℕ) × (slice_get place.now.module.now.procedures p ≡ Some procedure) }
     ensures test { Admits result (admits (call_in place.now.module.now state.now callee.now) context) }
@@ -197,7 +175,7 @@ fn touched(
         state,
         callee,
     };
-    calling.touched(context)
+    calling.touched(all, context)
 }
 
 /// `call`: the procedure at the offset `distance` bytes from the next instruction, with A, B and C and what comes after
@@ -211,10 +189,7 @@ pub fn call(place: &Place, state: &mut State, distance: i32) -> Result<Continuat
 {
     let to = place.target(distance);
     match place.module.procedure_at(to) {
-        Some((context, callee)) => {
-            sums_all_lent(place, state, callee);
-            calls_procedure(place, state, to, context, callee)
-        }
+        Some((context, callee)) => calls_procedure(place, state, to, context, callee),
         None => {
             alone(state.mode)?;
             Err(Rule::Call)

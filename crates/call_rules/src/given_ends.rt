@@ -1,11 +1,14 @@
 //! What a call wants of the channels that it passes.
 
 ghost use Rattle.std.specs.Prelude.{◌≡◌};
-ghost use Rattle.call_rules.specs.Callings.{brings_channels};
+ghost use Rattle.std.specs.List.{list_all};
+ghost use Rattle.call_rules.specs.CallRules.{each_two};
+ghost use Rattle.call_rules.specs.Callings.{brings_channels, are_passed_other_ends};
 
 use crate::calling::Calling;
+use crate::passed::Passed;
 use certificate::ChannelRun;
-use module_format::{Direction, EndKind, Ends, Parameter, ParameterKind};
+use module_format::{Direction, EndKind, Ends, ParameterKind};
 use rulings::channels::{are_disjoint, channel_of, channels_meet, has_direction};
 
 /// Whether a parameter of this kind brings channels.
@@ -15,14 +18,65 @@ fn brings_channels(kind: ParameterKind) -> bool
     matches!(kind, ParameterKind::Channels { .. })
 }
 
+/// Whether no end is given to both of two parameters.
+fn give_other_ends(one: &Passed, other: &Passed) -> bool
+    ensures { result ≡ are_passed_other_ends one.now other.now }
+{
+    let ParameterKind::Channels { count, ends, .. } = one.parameter.kind else {
+        return true;
+    };
+    let ParameterKind::Channels {
+        count: more,
+        ends: others,
+        ..
+    } = other.parameter.kind
+    else {
+        return true;
+    };
+    match (channel_of(one.fact), channel_of(other.fact)) {
+        (Some(first), Some(other)) => {
+            are_disjoint(ends, others) || !channels_meet(first, count, other, more)
+        }
+        _ => true,
+    }
+}
+
+/// Whether no end is given to a parameter and to one of these others. Only one that brings channels is given ends.
+fn gives_other_ends(one: &Passed, others: &[Passed]) -> bool
+    ensures { result ≡ list_all (are_passed_other_ends one.now) others.now }
+{
+    if !brings_channels(one.parameter.kind) {
+        return true;
+    }
+    for other in others {
+        if !give_other_ends(one, other) {
+            return false;
+        }
+    }
+    true
+}
+
+/// Whether no end is given to two parameters, which are passed this.
+fn all_give_other_ends(all: &[Passed]) -> bool
+    ensures { result ≡ each_two are_passed_other_ends all.now }
+{
+    let mut rest = all;
+    while let Some((first, others)) = rest.split_first() {
+        if !gives_other_ends(first, others) {
+            return false;
+        }
+        rest = others;
+    }
+    true
+}
+
 impl Calling<'_, '_, '_, '_> {
-    ghost use Rattle.std.specs.Prelude.{◌≡◌, true, IfSome};
-    ghost use Rattle.std.specs.List.{list_all};
+    ghost use Rattle.std.specs.Prelude.{◌≡◌, true, map, IfSome};
     ghost use Rattle.module_format.specs.Keeping.{Keeps};
     ghost use Rattle.rulings.specs.Channels.{further, has_end_further, has_length_further};
     ghost use Rattle.call_rules.specs.CallRules.{all_below, holds_ends, ends_are_held, lengths_fit, give_other_ends};
     ghost use Rattle.call_rules.specs.CallRules.{each_two};
-    ghost use Rattle.call_rules.specs.Callings.{calling_of, HasAllBefore, HasRun, HasAll};
+    ghost use Rattle.call_rules.specs.Callings.{calling_of, passed_to, IsPassedSo, HasAllBefore, HasRun, HasAll};
 
     /// Whether the caller has the ends of a channel if it has those of one after it: so it is for the channels of its
     /// own parameters.
@@ -115,71 +169,27 @@ impl Calling<'_, '_, '_, '_> {
 
     /// Whether a parameter that brings channels is passed some whose ends the caller has.
     #[tactic(auto, unfolding(crate::specs::CallRules::ends_are_held))]
-    pub fn ends_are_held(&self, parameter: &Parameter) -> bool
-        requires { Keeps self.now.place.module.now }
-        ensures { result ≡ ends_are_held (calling_of self.now) parameter.now }
+    pub fn ends_are_held(&self, passed: &Passed) -> bool
+        requires keeps { Keeps self.now.place.module.now }
+        requires passed { IsPassedSo (calling_of self.now) passed.now }
+        ensures { result ≡ ends_are_held (calling_of self.now) passed.now.parameter }
     {
-        let ParameterKind::Channels { count, ends, .. } = parameter.kind else {
+        let ParameterKind::Channels { count, ends, .. } = passed.parameter.kind else {
             return true;
         };
-        match channel_of(self.given(parameter)) {
+        match channel_of(passed.fact) {
             Some(first) => self.holds_ends(first, count, ends),
             None => false,
         }
     }
 
-    /// Whether no end is given to both parameters.
-    #[tactic(auto, unfolding(crate::specs::CallRules::give_other_ends))]
-    fn give_other_ends(&self, one: &Parameter, other: &Parameter) -> bool
-        ensures { result ≡ give_other_ends (calling_of self.now) one.now other.now }
-    {
-        let ParameterKind::Channels { count, ends, .. } = one.kind else {
-            return true;
-        };
-        let ParameterKind::Channels {
-            count: more,
-            ends: others,
-            ..
-        } = other.kind
-        else {
-            return true;
-        };
-        match (channel_of(self.given(one)), channel_of(self.given(other))) {
-            (Some(first), Some(other)) => {
-                are_disjoint(ends, others) || !channels_meet(first, count, other, more)
-            }
-            _ => true,
-        }
-    }
-
-    /// Whether no end is given to a parameter and to one of these others. Only one that brings channels is given ends.
-    fn gives_other_ends(&self, one: &Parameter, others: &[Parameter]) -> bool
-        ensures { result ≡ list_all (give_other_ends (calling_of self.now) one.now) others.now }
-    {
-        if !brings_channels(one.kind) {
-            return true;
-        }
-        for other in others {
-            if !self.give_other_ends(one, other) {
-                return false;
-            }
-        }
-        true
-    }
-
-    /// Whether no end is given to two parameters.
-    pub fn ends_are_apart(&self) -> bool
+    /// Whether no end is given to two parameters, which are passed this.
+    pub fn ends_are_apart(&self, all: &[Passed]) -> bool
+        requires { let call = calling_of self.now in all.now ≡ map (passed_to call) call.callee.parameters }
         ensures { let call = calling_of self.now in
             result ≡ each_two (give_other_ends call) call.callee.parameters }
     {
-        let mut rest = self.callee.parameters.as_slice();
-        while let Some((first, others)) = rest.split_first() {
-            if !self.gives_other_ends(first, others) {
-                return false;
-            }
-            rest = others;
-        }
-        true
+        all_give_other_ends(all)
     }
 
     /// Whether the channel `n` channels further has messages of this length.
@@ -231,14 +241,15 @@ impl Calling<'_, '_, '_, '_> {
 
     /// Whether the channels that a parameter is passed have messages of the length that it wants.
     #[tactic(auto, unfolding(crate::specs::CallRules::lengths_fit))]
-    pub fn lengths_fit(&self, parameter: &Parameter) -> bool
-        requires { Keeps self.now.place.module.now }
-        ensures { result ≡ lengths_fit (calling_of self.now) parameter.now }
+    pub fn lengths_fit(&self, passed: &Passed) -> bool
+        requires keeps { Keeps self.now.place.module.now }
+        requires passed { IsPassedSo (calling_of self.now) passed.now }
+        ensures { result ≡ lengths_fit (calling_of self.now) passed.now.parameter }
     {
-        let ParameterKind::Channels { count, length, .. } = parameter.kind else {
+        let ParameterKind::Channels { count, length, .. } = passed.parameter.kind else {
             return true;
         };
-        match channel_of(self.given(parameter)) {
+        match channel_of(passed.fact) {
             Some(first) => self.have_length(first, count, length),
             None => true,
         }

@@ -8,7 +8,7 @@ ghost use Rattle.states.specs.Below.{lies_within};
 ghost use Rattle.rulings.specs.Reach.{word_of_byte, words_touched, lie_in};
 ghost use Rattle.call_rules.specs.CallRules.{lent_end, lent_from, lent_to, suits, parameter_suits, clash};
 ghost use Rattle.call_rules.specs.CallRules.{are_apart, each_two};
-ghost use Rattle.call_rules.specs.Callings.{is_apart_if_written, is_apart_at};
+ghost use Rattle.call_rules.specs.Callings.{frame_words, is_apart_if_written, is_apart_at};
 
 use module_format::{Fact, Parameter, ParameterKind, Region, Step};
 use rulings::reach::{word_of_byte, word_of_offset};
@@ -46,6 +46,17 @@ impl Lent {
         ensures { result ≡ self.size / 4 }
     {
         self.size / 4
+    }
+
+    /// How many words of the frame the bytes are: none, if they are of another region.
+    pub fn frame_words(self) -> u32
+        ensures { result ≡ frame_words self }
+    {
+        if self.region.is_frame() {
+            self.word_count()
+        } else {
+            0
+        }
     }
 
     /// How many words of the frame have one of the bytes.

@@ -6,6 +6,7 @@ mod calls;
 mod given_ends;
 mod laws;
 mod lent;
+mod passed;
 
 pub use calls::{call, return_to_caller};
 pub use laws::call_rules_fit_steps;

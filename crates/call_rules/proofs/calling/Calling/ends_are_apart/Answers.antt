@@ -1,11 +1,12 @@
-use Rattle.std.proofs.Common.{rules, ◌∙◌, sym}
-use Rattle.call_rules.specs.CallRules.{give_other_ends}
-use Rattle.call_rules.specs.Callings.{calling_of}
-use Rattle.call_rules.proofs.Touching.{two_more}
+use Rattle.std.proofs.Common.{◌∙◌, ap}
+use Rattle.call_rules.specs.CallRules.{each_two, give_other_ends}
+use Rattle.call_rules.specs.Callings.{calling_of, passed_to, are_passed_other_ends}
+use Rattle.call_rules.proofs.WrittenApart.{each_two-map}
 use Rattle.call_rules.proofs.calling.Calling.ends_are_apart.Goals as goal
 
-pub loop-first-preserved : goal.loop-first-preserved
-loop-first-preserved c =
-    two_more (give_other_ends (calling_of c.args.self.now)) c.in-Some.first.now c.loop-first.rest.now
-    c.in-Some.others.now _ (search rules) (sym c.gives_other_ends.ensures ∙ c.if-not-gives_other_ends.false)
-    c.loop-first.invariant
+pub returns : goal.returns
+unfolding give_other_ends
+returns c =
+    let call = calling_of c.args.self.now in
+    c.all_give_other_ends.ensures ∙ ap (each_two are_passed_other_ends) c.requires
+    ∙ each_two-map are_passed_other_ends (passed_to call) call.callee.parameters
