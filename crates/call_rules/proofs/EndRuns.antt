@@ -2,11 +2,14 @@
 use Rattle.std.proofs.Common.{◌≡◌, ℕ, zero, suc, ◌<◌, Bool, true, false, ◌||◌, not, inl, inr, refl, sym, ◌∙◌}
 use Rattle.std.proofs.Common.{subst, arith}
 use Rattle.std.proofs.lemmas.Bool.{cases_Bool, cases_eq, and_parts, and_from}
+use Rattle.std.proofs.lemmas.Bool.Decides.{leb_tells}
+use Rattle.std.proofs.Math.Dec.{leb}
 use Rattle.module_format.specs.declared.rows.EndKind.{EndKind}
 use Rattle.module_format.specs.declared.rows.Direction.{Direction}
 use Rattle.module_format.specs.declared.rows.Direction.TheVariants.{In, Out}
 use Rattle.module_format.specs.Contents.{Contents}
 use Rattle.certificate.specs.Rights.{has_end}
+use Rattle.certificate.specs.Runs.{IsRunCount}
 use Rattle.call_rules.specs.CallRules.{all_below, holds_ends}
 use Rattle.rulings.specs.Channels.{further, has_direction}
 
@@ -29,6 +32,13 @@ pub one_fails : (count i : ℕ) (test : ℕ → Bool) → i < count → test i �
 one_fails count i test low fails = elim (cases_Bool (all_below count test)) [
   | inl t ↦ let no' : true ≡ false = sym (all_below_at count i test t low) ∙ fails in absurd (cc)
   | inr f ↦ sym f
+]
+
+-- A run of neighbouring ends that is held, and does not go on, decides of any number of them.
+pub run_decides : (count run : ℕ) (test : ℕ → Bool) → IsRunCount test run → leb count run ≡ all_below count test
+run_decides count run test is = elim (leb_tells count run) [
+  | inl within ↦ within.0 ∙ sym (all_from count test (λ i low. let few = within.1 in is.each i (omega (arith, few))))
+  | inr beyond ↦ beyond.0 ∙ one_fails count run test (let more = beyond.1 in omega (arith, more)) is.stops
 ]
 
 told : (b c : Bool) → b ≡ true → (not b || c) ≡ true → c ≡ true

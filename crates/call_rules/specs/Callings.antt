@@ -125,11 +125,6 @@ pub record HasRun (m : Contents) (context : ℕ) (first : EndKind) (direction : 
   pub ends : HasAll run.count (has_end_further m context first direction)
   pub lengths : (i : ℕ) → i < run.count → message_length m context (further first i) ≡ run.length
 
--- a context that has an end of a channel has those of the channels before it
-pub record HasAllBefore (m : Contents) (context : ℕ) (first : EndKind) : Type 0 where
-  pub each : (more n : ℕ) (direction : Direction) → n ≤ more → has_end_further m context first direction more ≡ true
-      → has_end_further m context first direction n ≡ true
-
 -- what is known of the frame after a call to which this was lent, parameter by parameter
 abbrev pub with_each : List (Option Lent) → Facts → Facts
 with_each [] facts = facts

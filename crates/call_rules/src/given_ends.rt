@@ -73,21 +73,11 @@ fn all_give_other_ends(all: &[Passed]) -> bool
 impl Calling<'_, '_, '_, '_> {
     ghost use Rattle.std.specs.Prelude.{◌≡◌, true, map, IfSome};
     ghost use Rattle.module_format.specs.Keeping.{Keeps};
+    ghost use Rattle.certificate.specs.Runs.{has_element};
     ghost use Rattle.rulings.specs.Channels.{further, has_end_further, has_length_further};
     ghost use Rattle.call_rules.specs.CallRules.{all_below, holds_ends, ends_are_held, lengths_fit, give_other_ends};
     ghost use Rattle.call_rules.specs.CallRules.{each_two};
-    ghost use Rattle.call_rules.specs.Callings.{calling_of, passed_to, IsPassedSo, HasAllBefore, HasRun, HasAll};
-
-    /// Whether the caller has the ends of a channel if it has those of one after it: so it is for the channels of its
-    /// own parameters.
-    fn has_all_before(&self, first: EndKind) -> bool
-        ensures { result ≡ true → HasAllBefore self.now.place.module.now self.now.state.now.context first }
-    {
-        match first {
-            EndKind::Parameter { .. } => self.place.module.branch(self.state.context).is_none(),
-            _ => false,
-        }
-    }
+    ghost use Rattle.call_rules.specs.Callings.{calling_of, passed_to, IsPassedSo, HasRun, HasAll};
 
     /// The run of channels from a frame word on of which the caller, a branch, has the ends in a direction.
     fn run_from(&self, first: EndKind, direction: Direction) -> Option<ChannelRun>
@@ -124,32 +114,42 @@ impl Calling<'_, '_, '_, '_> {
         }
     }
 
-    /// Whether the caller has the ends, in a direction, of `count` channels from the first one on. If they are one run
-    /// of a branch, it takes time logarithmic in the ends; the channels of a call that fits are.
+    /// Whether the caller has the ends of `count` elements of a parameter's channels from this one on.
+    fn has_elements(&self, number: i32, element: u32, count: u32, direction: Direction) -> bool
+        ensures { let context = self.now.state.now.context in
+            result ≡ all_below count (has_element self.now.place.module.now context number element direction) }
+    {
+        let context = self.state.context;
+        let held = self
+            .place
+            .module
+            .elements_from(context, number, element, direction);
+        count <= held
+    }
+
+    /// Whether the caller has the ends, in a direction, of `count` channels from the first one on. If they are those of
+    /// a parameter, or one run of a branch, it takes time logarithmic in the ends; the channels of a call that fits are.
     fn has_ends(&self, first: EndKind, count: u32, direction: Direction) -> bool
         requires { Keeps self.now.place.module.now }
         ensures { let has = has_end_further self.now.place.module.now self.now.state.now.context first direction in
             result ≡ all_below count has }
     {
+        if let EndKind::Parameter { number, element } = first {
+            return self.has_elements(number, element, count, direction);
+        }
         if self.run_has_ends(first, count, direction) {
             return true;
         }
         self.has_each_end(first, count, direction)
     }
 
-    /// The same, end by end. If the last one implies those before it, only the last is looked up; else the search ends
-    /// at the first one that the caller does not have.
+    /// The same, end by end: the search ends at the first one that the caller does not have.
     fn has_each_end(&self, first: EndKind, count: u32, direction: Direction) -> bool
         requires { Keeps self.now.place.module.now }
         ensures { let has = has_end_further self.now.place.module.now self.now.state.now.context first direction in
             result ≡ all_below count has }
     {
-        let start = if self.has_all_before(first) {
-            count.saturating_sub(1)
-        } else {
-            0
-        };
-        for n in start..count {
+        for n in 0..count {
             if !self.place.has_end(self.state.context, first, n, direction) {
                 return false;
             }
