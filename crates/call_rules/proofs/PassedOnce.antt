@@ -1,5 +1,6 @@
 -- What is found of the parameters of a call is what they are passed.
-use Rattle.std.proofs.Common.{◌≡◌, ◌∙◌, ◌/◌, refl, sym, ap, subst, ℕ, ◌+◌, ◌<◌, length, take, get_or, ◌++◌, List, [], ◌∷◌, map, Option, Some, if◌then◌else◌}
+use Rattle.std.proofs.Common.{◌≡◌, ◌∙◌, ◌/◌, refl, sym, ap, subst, ℕ, ◌+◌, ◌<◌, length, take, get_or, ◌++◌, List, []}
+use Rattle.std.proofs.Common.{◌∷◌, map, Option, Some, if◌then◌else◌}
 use Rattle.std.specs.List.{AllByRecursion}
 use Rattle.std.proofs.lemmas.List.{take_more, map-append}
 use Rattle.std.proofs.lemmas.Simd.{map-map}

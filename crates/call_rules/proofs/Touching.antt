@@ -241,6 +241,7 @@ barred_lent c l near used near_is is_near used_is barred =
     sym (near_lent c l near used near_is is_near used_is
     ∙ ap (λ (b : Bool). b && (if is_frame l.region then words_fit c l else true)) barred)
 
+-- What is no frame fails the test for it.
 not_frame : (region : Region) → (region ≡ regions.Frame → ⊥) → is_frame region ≡ false
 not_frame regions.Frame other = absurd (other refl)
 not_frame regions.Constants other = refl

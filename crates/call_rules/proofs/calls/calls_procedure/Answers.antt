@@ -37,7 +37,8 @@ pub returns-in_err-touched-clause-ruling : goal.returns-in_err-touched-clause-ru
 returns-in_err-touched-clause-ruling c =
     let p = err_from_is_err_and c.from_residual.result c.from_residual.ensures.1 in
     rw (p.1, p.2) (procedure_called (site_of c.args.place.now) c.args.to (state_of c.args.state.now)
-    (state_of c.all_passed-all.new.state) c.args.callee.now c.args.context (c.all_passed-all.ensures.state ∙ c.passing.ensures.state)
+    (state_of c.all_passed-all.new.state) c.args.callee.now c.args.context
+    (c.all_passed-all.ensures.state ∙ c.passing.ensures.state)
     ∙ c.in_err-touched.ensures.test _)
 
 pub returns-in_err-spends-clause-ruling : goal.returns-in_err-spends-clause-ruling
@@ -48,7 +49,8 @@ returns-in_err-spends-clause-ruling c =
     let behind = behind_told call c.in_ok-touched.touched (state_of c.has_returned.new.state)
     c.in_ok-touched.ensures.touched c.has_returned.ensures.state in
     rw (p.1, p.2) (procedure_called (site_of c.args.place.now) c.args.to (state_of c.args.state.now)
-    (state_of c.all_passed-all.new.state) c.args.callee.now c.args.context (c.all_passed-all.ensures.state ∙ c.passing.ensures.state)
+    (state_of c.all_passed-all.new.state) c.args.callee.now c.args.context
+    (c.all_passed-all.ensures.state ∙ c.passing.ensures.state)
     ∙ (c.in_ok-touched.ensures.test _
     ∙ (ap (λ (s : State). spends price s (calls c.args.to)) (sym behind)
     ∙ c.in_err-spends.ensures.test (calls c.args.to))))
@@ -60,7 +62,8 @@ returns-clause-ruling c =
     let behind = behind_told call c.in_ok-touched.touched (state_of c.has_returned.new.state)
     c.in_ok-touched.ensures.touched c.has_returned.ensures.state in
     procedure_called (site_of c.args.place.now) c.args.to (state_of c.args.state.now)
-    (state_of c.all_passed-all.new.state) c.args.callee.now c.args.context (c.all_passed-all.ensures.state ∙ c.passing.ensures.state)
+    (state_of c.all_passed-all.new.state) c.args.callee.now c.args.context
+    (c.all_passed-all.ensures.state ∙ c.passing.ensures.state)
     ∙ (c.in_ok-touched.ensures.test _
     ∙ (ap (λ (s : State). spends price s (calls c.args.to)) (sym behind)
     ∙ c.in_ok-spends.ensures.test (calls c.args.to)))
