@@ -1,3 +1,4 @@
 pub mod ChainWidth
 pub mod Places
 pub mod Causes
+pub mod Parts

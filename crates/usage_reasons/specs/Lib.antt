@@ -3,4 +3,7 @@ pub mod Sorts
 pub mod Numbers
 pub mod Chains
 pub mod Causes
+pub mod Calls
+pub mod Misuse
+pub mod LastItems
 pub mod Reasons

@@ -1,7 +1,9 @@
 -- What names have to be.
-use Rattle.std.specs.Prelude.{ℕ, Bool, true, false, Option, None}
+use Rattle.std.specs.Prelude.{ℕ, Bool, true, false, Option, Some, None}
 use Rattle.scalar_ranges.specs.declared.scope.ScalarKind.TheVariants as scalar
 use Rattle.scalar_ranges.specs.declared.scope.ArrayKind.TheVariants as array
+use Rattle.scalar_ranges.specs.declared.types.ExprType.{ExprType}
+use Rattle.scalar_ranges.specs.Types.{type_of_values}
 use Rattle.scalar_ranges.specs.Entries.{Meaning, Constant, Scalar, Array, Channel, Channels, Procedure}
 use Rattle.usage_reasons.specs.declared.reason.Sort.{Sort}
 use Rattle.usage_reasons.specs.declared.reason.Sort.TheVariants as sort
@@ -28,3 +30,13 @@ abbrev pub elements_in : Meaning → Option ℕ
 elements_in (Array kind type size range) = size
 elements_in (Channels type size) = size
 elements_in m = None
+
+-- the type of a variable, of the elements of an array, or of what a channel carries
+abbrev pub carried : Option Meaning → Option ExprType
+carried None = None
+carried (Some (Constant type value)) = Some (type_of_values type)
+carried (Some (Scalar kind type range)) = Some (type_of_values type)
+carried (Some (Array kind type size range)) = Some (type_of_values type)
+carried (Some (Channel type)) = Some (type_of_values type)
+carried (Some (Channels type size)) = Some (type_of_values type)
+carried (Some (Procedure number)) = None

@@ -1,5 +1,6 @@
 //! The walk over processes, as far as the line at fault.
 
+use crate::site::{Part, rule_of};
 use crate::tokens::{plus, width_of};
 use crate::walk::Walk;
 use occam_parser::{
@@ -53,16 +54,14 @@ impl<'a> Walk<'_, 'a> {
             if self.is_over(line_of(declaration)) {
                 return;
             }
-            self.explain_declaration(declaration);
+            self.look(line_of(declaration), Part::Declaration(declaration));
             self.declaration(first, declaration);
         }
     }
 
     /// An action on this line.
     fn act(&mut self, line: u32, action: &Action<'a>) {
-        if line == self.fault.line {
-            self.explain_action(action);
-        }
+        self.look(line, Part::Action(action));
         after_action(&mut self.scope, &self.signatures, action);
     }
 
@@ -148,9 +147,7 @@ impl<'a> Walk<'_, 'a> {
         if self.is_over(choice.line) {
             return;
         }
-        if choice.line == self.fault.line {
-            self.explain_condition(&choice.condition);
-        }
+        self.look(choice.line, Part::Condition(&choice.condition));
         self.scope.exclude(&choice.condition);
         narrow_by(&mut self.scope, &choice.condition, true);
         self.process(&choice.process);
@@ -168,11 +165,19 @@ impl<'a> Walk<'_, 'a> {
         self.scope.next();
     }
 
+    /// The head of a block under a replicator on the line at fault.
+    fn head(&mut self, line: u32, replicator: &Replicator<'a>, body: &Body<'a>) {
+        match rule_of(self.fault.number) {
+            Some(_) => self.look(line, Part::Replicator(replicator)),
+            None => self.explain_turns(replicator, body),
+        }
+    }
+
     /// A block under a replicator on this line.
     #[cycle(walk)]
     fn replicated(&mut self, line: u32, replicator: &Replicator<'a>, body: &Body<'a>) {
         if line == self.fault.line {
-            self.explain_replicated(replicator, body);
+            self.head(line, replicator, body);
             return;
         }
         let around = self.position.parallel;
@@ -260,9 +265,7 @@ impl<'a> Walk<'_, 'a> {
     /// A condition of a guard on this line, if it has one, and then where it holds.
     fn condition(&mut self, line: u32, condition: &Option<Expr<'a>>) {
         if let Some(condition) = condition {
-            if line == self.fault.line {
-                self.explain_condition(condition);
-            }
+            self.look(line, Part::Condition(condition));
             narrow_by(&mut self.scope, condition, true);
         }
     }
@@ -271,9 +274,7 @@ impl<'a> Walk<'_, 'a> {
     fn guard(&mut self, line: u32, guard: &Guard<'a>) {
         match guard {
             Guard::Skip { condition } => {
-                if line == self.fault.line {
-                    self.explain_condition(condition);
-                }
+                self.look(line, Part::Condition(condition));
                 narrow_by(&mut self.scope, condition, true);
             }
             Guard::Input {
@@ -282,9 +283,15 @@ impl<'a> Walk<'_, 'a> {
                 target,
             } => {
                 self.condition(line, condition);
-                if line == self.fault.line {
-                    self.explain_input(width_before(condition), channel, target);
-                }
+                let at = width_before(condition);
+                self.look(
+                    line,
+                    Part::Input {
+                        at,
+                        channel,
+                        target,
+                    },
+                );
                 after_input(&mut self.scope, target);
             }
         }

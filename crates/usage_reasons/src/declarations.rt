@@ -1,9 +1,17 @@
 //! The part of a declaration or of the head of a procedure that breaks a rule.
 
+ghost use Rattle.std.specs.Prelude.{◌≡◌, false, Some, IfSome, map, nat_eq, sum_by};
+ghost use Rattle.occam_parser.specs.Views.{expression_of};
+ghost use Rattle.scalar_ranges.specs.Scopes.{entries_of};
+ghost use Rattle.program_uses.specs.Constants.{size_in};
+ghost use Rattle.usage_reasons.specs.Causes.{Explains};
+ghost use Rattle.usage_reasons.specs.Tokens.{capped, tokens_of_item};
+
 use crate::cause::{Cause, Rule};
 use crate::lines::in_wanted;
 use crate::reason::{Tokens, Why};
 use crate::tokens::{plus, plus_between, width_in_brackets, width_of};
+use occam_layout::Text;
 use occam_parser::{
     Constant, ConstantValue, Declaration, Expr, Formal, FormalKind, OneOrMore, ValueType,
 };
@@ -11,25 +19,35 @@ use program_uses::{size_in, value_as};
 use scalar_ranges::{ExprType, Scope, type_of_values};
 use usage_checks::Wanted;
 
+/// A size that is below 1.
+#[tactic(auto, using(crate::proofs::Parts::size_broken))]
+fn size_below_one<'a>(scope: &Scope<'a>, at: usize, expr: &Expr<'a>) -> Option<Cause<'a>>
+    ensures { IfSome result (Explains (entries_of scope.now)) }
+{
+    let size = value_as(scope, ExprType::Int, expr)?;
+    if 1 <= size {
+        return None;
+    }
+    let len = width_of(expr);
+    Some(Cause {
+        tokens: Tokens { at, len },
+        why: Why::SizeBelowOne { size },
+    })
+}
+
 /// The part of the size of an array that breaks a rule. The bracket before it is at this token.
-fn in_size<'a>(scope: &Scope<'a>, rule: Rule, at: usize, size: &Expr<'a>) -> Option<Cause<'a>> {
+fn in_size<'a>(scope: &Scope<'a>, rule: Rule, at: usize, size: &Expr<'a>) -> Option<Cause<'a>>
+    ensures { IfSome result (Explains (entries_of scope.now)) }
+{
     let at = plus(at, 1);
     if let Some(cause) = in_wanted(scope, rule, at, Wanted::Constant(ExprType::Int), size) {
         return Some(cause);
     }
-    if rule != Rule::Ranges {
-        return None;
+    if rule == Rule::Ranges {
+        size_below_one(scope, at, size)
+    } else {
+        None
     }
-    let value = value_as(scope, ExprType::Int, size)?;
-    if 1 <= value {
-        return None;
-    }
-    let tokens = Tokens {
-        at,
-        len: width_of(size),
-    };
-    let why = Why::SizeBelowOne { size: value };
-    Some(Cause { tokens, why })
 }
 
 /// The part of the items of a table that breaks a rule.
@@ -39,7 +57,9 @@ fn in_items<'a>(
     at: usize,
     value_type: ValueType,
     items: &OneOrMore<Expr<'a>>,
-) -> Option<Cause<'a>> {
+) -> Option<Cause<'a>>
+    ensures { IfSome result (Explains (entries_of scope.now)) }
+{
     let wanted = Wanted::Constant(type_of_values(value_type));
     if let Some(cause) = in_wanted(scope, rule, at, wanted, &items.first) {
         return Some(cause);
@@ -54,28 +74,54 @@ fn in_items<'a>(
     None
 }
 
-/// How many tokens the items of a table are.
-fn width_of_items(items: &OneOrMore<Expr>) -> usize {
-    let mut width = width_of(&items.first);
-    for item in &items.others {
+/// How many tokens the further items of a table are, each with its comma.
+fn width_of_others(items: &[Expr]) -> usize
+    ensures { result ≡ capped (sum_by tokens_of_item (map expression_of items.now)) }
+{
+    let mut width = 0;
+    for item in items {
         width = plus_between(width, width_of(item));
     }
     width
 }
 
-/// A table of this many items, in these tokens, whose size says another number.
-fn other_items<'a>(
-    scope: &Scope<'a>,
-    size: &Expr<'a>,
-    items: usize,
-    tokens: Tokens,
-) -> Option<Cause<'a>> {
+/// The size that is stated of a table or of a text, if it has another number of items.
+fn other_size(scope: &Scope, size: &Expr, items: usize) -> Option<u32>
+    ensures { IfSome result (λ stated.
+        (size_in (entries_of scope.now) (expression_of size.now) ≡ Some stated) × (nat_eq stated items ≡ false)) }
+{
     let stated = size_in(scope, size)?;
     if stated as usize == items {
-        return None;
+        None
+    } else {
+        Some(stated)
     }
-    let why = Why::OtherItems { stated, items };
-    Some(Cause { tokens, why })
+}
+
+/// A table whose size says another number of items, whose bracket is at this token.
+#[tactic(auto, using(crate::proofs::Parts::table_broken))]
+fn other_table<'a>(
+    scope: &Scope<'a>,
+    at: usize,
+    size: &Expr<'a>,
+    items: &OneOrMore<Expr<'a>>,
+) -> Option<Cause<'a>>
+    ensures { IfSome result (Explains (entries_of scope.now)) }
+{
+    let count = 1 + items.others.len();
+    let stated = other_size(scope, size, count)?;
+    let first = width_of(&items.first);
+    let others = width_of_others(&items.others);
+    Some(Cause {
+        tokens: Tokens {
+            at,
+            len: plus(2, plus(first, others)),
+        },
+        why: Why::OtherItems {
+            stated,
+            items: count,
+        },
+    })
 }
 
 /// The part of a table that breaks a rule, whose bracket is at this token.
@@ -83,21 +129,49 @@ fn in_table<'a>(
     scope: &Scope<'a>,
     rule: Rule,
     at: usize,
-    constant: &Constant<'a>,
+    value_type: ValueType,
     size: &Expr<'a>,
     items: &OneOrMore<Expr<'a>>,
-) -> Option<Cause<'a>> {
+) -> Option<Cause<'a>>
+    ensures { IfSome result (Explains (entries_of scope.now)) }
+{
     if let Some(cause) = in_size(scope, rule, 1, size) {
         return Some(cause);
     }
-    if let Some(cause) = in_items(scope, rule, plus(at, 1), constant.value_type, items) {
+    if let Some(cause) = in_items(scope, rule, plus(at, 1), value_type, items) {
         return Some(cause);
     }
-    if rule != Rule::Types {
-        return None;
+    if rule == Rule::Types {
+        other_table(scope, at, size, items)
+    } else {
+        None
     }
-    let len = plus(2, width_of_items(items));
-    other_items(scope, size, 1 + items.others.len(), Tokens { at, len })
+}
+
+/// A text that is no table of its size, which is this token.
+#[tactic(auto, using(crate::proofs::Parts::text_broken, crate::proofs::Parts::ints_broken))]
+fn no_text<'a>(
+    scope: &Scope<'a>,
+    at: usize,
+    value_type: ValueType,
+    size: &Expr<'a>,
+    text: Text,
+) -> Option<Cause<'a>>
+    ensures { IfSome result (Explains (entries_of scope.now)) }
+{
+    let tokens = Tokens { at, len: 1 };
+    match value_type {
+        ValueType::Int => Some(Cause {
+            tokens,
+            why: Why::TextOfInts,
+        }),
+        ValueType::Byte => {
+            let items = text.len();
+            let stated = other_size(scope, size, items)?;
+            let why = Why::OtherItems { stated, items };
+            Some(Cause { tokens, why })
+        }
+    }
 }
 
 /// The part of a text that breaks a rule, which is this token.
@@ -107,19 +181,17 @@ fn in_text<'a>(
     at: usize,
     value_type: ValueType,
     size: &Expr<'a>,
-    count: usize,
-) -> Option<Cause<'a>> {
+    text: Text,
+) -> Option<Cause<'a>>
+    ensures { IfSome result (Explains (entries_of scope.now)) }
+{
     if let Some(cause) = in_size(scope, rule, 1, size) {
         return Some(cause);
     }
-    let tokens = Tokens { at, len: 1 };
-    match (rule, value_type) {
-        (Rule::Types, ValueType::Int) => Some(Cause {
-            tokens,
-            why: Why::TextOfInts,
-        }),
-        (Rule::Types, ValueType::Byte) => other_items(scope, size, count, tokens),
-        _ => None,
+    if rule == Rule::Types {
+        no_text(scope, at, value_type, size, text)
+    } else {
+        None
     }
 }
 
@@ -128,7 +200,9 @@ pub(crate) fn in_constant<'a>(
     scope: &Scope<'a>,
     rule: Rule,
     constant: &Constant<'a>,
-) -> Option<Cause<'a>> {
+) -> Option<Cause<'a>>
+    ensures { IfSome result (Explains (entries_of scope.now)) }
+{
     let value_type = constant.value_type;
     match &constant.value {
         ConstantValue::Scalar(value) => {
@@ -141,11 +215,18 @@ pub(crate) fn in_constant<'a>(
             )
         }
         ConstantValue::Table { size, items } => {
-            in_table(scope, rule, plus(6, width_of(size)), constant, size, items)
+            in_table(
+                scope,
+                rule,
+                plus(6, width_of(size)),
+                value_type,
+                size,
+                items,
+            )
         }
         ConstantValue::Text { size, text } => {
             let at = plus(6, width_of(size));
-            in_text(scope, rule, at, value_type, size, text.len())
+            in_text(scope, rule, at, value_type, size, *text)
         }
     }
 }
@@ -155,7 +236,9 @@ pub(crate) fn in_declaration<'a>(
     scope: &Scope<'a>,
     rule: Rule,
     declaration: &Declaration<'a>,
-) -> Option<Cause<'a>> {
+) -> Option<Cause<'a>>
+    ensures { IfSome result (Explains (entries_of scope.now)) }
+{
     match declaration {
         Declaration::Constant(constant) => in_constant(scope, rule, constant),
         Declaration::Variables(names) | Declaration::Channels(names) => match &names.size {
@@ -185,7 +268,9 @@ pub(crate) fn in_formals<'a>(
     scope: &Scope<'a>,
     rule: Rule,
     formals: &[Formal<'a>],
-) -> Option<Cause<'a>> {
+) -> Option<Cause<'a>>
+    ensures { IfSome result (Explains (entries_of scope.now)) }
+{
     let mut at = 3;
     for formal in formals {
         if let Some(size) = &formal.size {

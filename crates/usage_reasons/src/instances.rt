@@ -1,5 +1,14 @@
 //! The part of an instance that breaks a rule.
 
+ghost use Rattle.std.specs.Prelude.{◌≡◌, IfSome, Some, map, option_map};
+ghost use Rattle.std.specs.List.{slice_get};
+ghost use Rattle.occam_parser.specs.Views.{expression_of};
+ghost use Rattle.scalar_ranges.specs.Environments.{item_at};
+ghost use Rattle.scalar_ranges.specs.Scopes.{entries_of};
+ghost use Rattle.program_uses.specs.Signatures.{parameter_of};
+ghost use Rattle.usage_reasons.specs.Calls.{parameters_for};
+ghost use Rattle.usage_reasons.specs.Causes.{Explains};
+
 use crate::cause::{Cause, Rule};
 use crate::expressions::in_name;
 use crate::lines::{in_subscript, in_wanted};
@@ -32,28 +41,6 @@ pub(crate) struct Instance<'s, 'a> {
     pub(crate) len: usize,
 }
 
-/// What is asked of each actual.
-#[derive(Clone, Copy)]
-enum Question {
-    /// Whether it breaks a rule of expressions.
-    Breaks(Rule),
-    /// Whether its parameter takes it.
-    IsTaken,
-    /// Whether a channel may be passed here.
-    IsUsable(Position),
-}
-
-impl Question {
-    /// What is wrong with an actual.
-    fn ask<'a>(self, scope: &Scope<'a>, passed: Passed<'_, 'a>) -> Option<Cause<'a>> {
-        match self {
-            Question::Breaks(rule) => in_passed(scope, rule, passed),
-            Question::IsTaken => not_taken(scope, passed),
-            Question::IsUsable(position) => mispassed(position, scope, passed),
-        }
-    }
-}
-
 /// What is wanted of a subscript of what is passed to a parameter.
 fn wanted_subscript(parameter: Option<&Parameter>) -> Wanted {
     match parameter {
@@ -71,12 +58,15 @@ fn subscript_for(parameter: Meaning) -> Wanted {
 }
 
 /// The part of an actual that breaks a rule, which is exactly this place.
+#[tactic(auto, using(crate::proofs::Parts::of_cause))]
 fn in_passed_place<'a>(
     scope: &Scope<'a>,
     rule: Rule,
     passed: Passed<'_, 'a>,
     place: PlaceRef<'_, 'a>,
-) -> Option<Cause<'a>> {
+) -> Option<Cause<'a>>
+    ensures { IfSome result (Explains (entries_of scope.now)) }
+{
     let at = passed.tokens.at;
     if rule == Rule::Names {
         if let Some(cause) = in_name(scope, rule, Sort::Scalar, at, place.name) {
@@ -89,7 +79,9 @@ fn in_passed_place<'a>(
 }
 
 /// The part of an actual that breaks a rule of expressions.
-fn in_passed<'a>(scope: &Scope<'a>, rule: Rule, passed: Passed<'_, 'a>) -> Option<Cause<'a>> {
+fn in_passed<'a>(scope: &Scope<'a>, rule: Rule, passed: Passed<'_, 'a>) -> Option<Cause<'a>>
+    ensures { IfSome result (Explains (entries_of scope.now)) }
+{
     match place_in(passed.actual) {
         Some(place) => in_passed_place(scope, rule, passed, place),
         None => in_wanted(
@@ -104,7 +96,12 @@ fn in_passed<'a>(scope: &Scope<'a>, rule: Rule, passed: Passed<'_, 'a>) -> Optio
 
 impl<'s, 'a> Instance<'s, 'a> {
     /// The actual with this number, whose first token is this one.
-    fn passed(self, scope: &Scope<'a>, place: usize, at: usize) -> Option<Passed<'s, 'a>> {
+    fn passed(self, scope: &Scope<'a>, place: usize, at: usize) -> Option<Passed<'s, 'a>>
+        ensures parameter { IfSome result (λ p. option_map (λ q. parameter_of q.now) p.parameter
+            ≡ item_at place (parameters_for (entries_of scope.now) self.entry)) }
+        ensures actual { IfSome result (λ p. slice_get (map expression_of self.entry.actuals.now) place
+            ≡ Some (expression_of p.actual.now)) }
+    {
         let actual = self.actuals.get(place)?;
         let len = width_of(actual);
         Some(Passed {
@@ -115,12 +112,14 @@ impl<'s, 'a> Instance<'s, 'a> {
         })
     }
 
-    /// The first actual of which a question is answered.
-    fn first_actual(self, scope: &Scope<'a>, question: Question) -> Option<Cause<'a>> {
+    /// The part of an actual that breaks a rule of expressions.
+    fn in_actuals(self, scope: &Scope<'a>, rule: Rule) -> Option<Cause<'a>>
+        ensures { IfSome result (Explains (entries_of scope.now)) }
+    {
         let mut at = ACTUALS;
         for place in 0..self.actuals.len() {
             let passed = self.passed(scope, place, at)?;
-            if let Some(cause) = question.ask(scope, passed) {
+            if let Some(cause) = in_passed(scope, rule, passed) {
                 return Some(cause);
             }
             at = plus_between(at, passed.tokens.len);
@@ -129,13 +128,29 @@ impl<'s, 'a> Instance<'s, 'a> {
     }
 
     /// The part of the instance that breaks a rule of expressions.
-    pub(crate) fn breaks(self, scope: &Scope<'a>, rule: Rule) -> Option<Cause<'a>> {
+    #[tactic(auto, using(crate::proofs::Parts::of_cause))]
+    pub(crate) fn breaks(self, scope: &Scope<'a>, rule: Rule) -> Option<Cause<'a>>
+        ensures { IfSome result (Explains (entries_of scope.now)) }
+    {
         if rule == Rule::Names || rule == Rule::Types {
             if let Some(cause) = in_name(scope, rule, Sort::Procedure, 0, self.name) {
                 return Some(cause);
             }
         }
-        self.first_actual(scope, Question::Breaks(rule))
+        self.in_actuals(scope, rule)
+    }
+
+    /// An actual that its parameter does not take.
+    fn refused(self, scope: &Scope<'a>) -> Option<Cause<'a>> {
+        let mut at = ACTUALS;
+        for place in 0..self.actuals.len() {
+            let passed = self.passed(scope, place, at)?;
+            if let Some(cause) = not_taken(scope, passed) {
+                return Some(cause);
+            }
+            at = plus_between(at, passed.tokens.len);
+        }
+        None
     }
 
     /// An actual that its parameter does not take, or another number of them than of parameters.
@@ -143,22 +158,31 @@ impl<'s, 'a> Instance<'s, 'a> {
         let actuals = self.actuals.len();
         let parameters = count_of_parameters(self.signatures, scope.meaning(self.name));
         if actuals == parameters {
-            return self.first_actual(scope, Question::IsTaken);
+            return self.refused(scope);
         }
-        let tokens = Tokens {
-            at: 0,
-            len: self.len,
-        };
-        let why = Why::OtherCount {
-            actuals,
-            parameters,
-        };
-        Some(Cause { tokens, why })
+        Some(Cause {
+            tokens: Tokens {
+                at: 0,
+                len: self.len,
+            },
+            why: Why::OtherCount {
+                actuals,
+                parameters,
+            },
+        })
     }
 
     /// An actual that is a channel and may not be passed here.
     pub(crate) fn mispassed(self, scope: &Scope<'a>, position: Position) -> Option<Cause<'a>> {
-        self.first_actual(scope, Question::IsUsable(position))
+        let mut at = ACTUALS;
+        for place in 0..self.actuals.len() {
+            let passed = self.passed(scope, place, at)?;
+            if let Some(cause) = mispassed(position, scope, passed) {
+                return Some(cause);
+            }
+            at = plus_between(at, passed.tokens.len);
+        }
+        None
     }
 
     /// An actual that may not be passed beside one before it.

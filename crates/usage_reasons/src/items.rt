@@ -1,18 +1,18 @@
 //! The walk over the items of a program, as far as the line at fault.
 
-ghost use Rattle.std.specs.Prelude.{length, IfOk, IfSome};
+ghost use Rattle.std.specs.Prelude.{◌≡◌, length, map, IfOk, IfSome};
+ghost use Rattle.occam_parser.specs.BlockViews.{item_of};
+ghost use Rattle.usage_reasons.specs.LastItems.{IsMainReason};
 ghost use Rattle.usage_reasons.specs.Reasons.{IsReasonOf};
 
-use crate::cause::Cause;
-use crate::declarations::width_of_formal;
-use crate::reason::{LastItem, Reason, Tokens, Why};
-use crate::tokens::plus_between;
-use crate::walk::Walk;
+use crate::main_reason::main_reason;
+use crate::reason::Reason;
+use crate::site::Part;
+use crate::walk::{Walk, tested};
 use occam_layout::Token;
-use occam_parser::{Constant, Formal, FormalKind, Item, Proc, Program};
+use occam_parser::{Constant, Formal, Item, Proc, Program};
 use program_uses::{
-    Around, NO_MAIN, Parameter, UsageFault, Uses, constant_meaning, formal_meaning, link_way,
-    signed,
+    Around, NO_MAIN, Parameter, UsageFault, Uses, constant_meaning, formal_meaning, signed,
 };
 use scalar_ranges::Meaning;
 use std::alloc::{AllocError, Global};
@@ -21,9 +21,7 @@ use usage_checks::Position;
 impl<'a> Walk<'_, 'a> {
     /// A constant of the program.
     fn constant(&mut self, constant: &Constant<'a>) {
-        if constant.line == self.fault.line {
-            self.explain_constant(constant);
-        }
+        self.look(constant.line, Part::Constant(constant));
         let meaning = constant_meaning(&self.scope, constant.value_type, &constant.value);
         self.enter(0, constant.line, constant.name, meaning);
     }
@@ -96,9 +94,7 @@ impl<'a> Walk<'_, 'a> {
 
     /// A procedure.
     fn procedure(&mut self, proc: &Proc<'a>, ends: bool) {
-        if proc.line == self.fault.line {
-            self.explain_formals(&proc.formals);
-        }
+        self.look(proc.line, Part::Formals(&proc.formals));
         let first = self.scope.len();
         let number = self.signatures.len();
         match self.parameters(&proc.formals) {
@@ -135,42 +131,6 @@ impl<'a> Walk<'_, 'a> {
     }
 }
 
-/// Whether a formal is a link of `main`.
-fn is_link(formal: &Formal) -> bool {
-    formal.kind == FormalKind::Channel && formal.size.is_none() && link_way(formal.name).is_some()
-}
-
-/// The first formal that is no link, by its tokens.
-fn no_link(formals: &[Formal]) -> Option<Tokens> {
-    let mut at = 3;
-    for formal in formals {
-        let len = width_of_formal(formal);
-        if !is_link(formal) {
-            return Some(Tokens { at, len });
-        }
-        at = plus_between(at, len);
-    }
-    None
-}
-
-/// Why the last item is not `main`.
-pub(crate) fn no_main<'a>(last: Option<&Item<'a>>) -> Cause<'a> {
-    let (at, len, found) = match last {
-        None => (0, 0, LastItem::Missing),
-        Some(Item::Constant(_)) => (0, 1, LastItem::Constant),
-        Some(Item::Proc(proc)) => match no_link(&proc.formals) {
-            Some(tokens) if proc.name == b"main".as_slice() => {
-                (tokens.at, tokens.len, LastItem::NoLink)
-            }
-            _ => (1, 1, LastItem::OtherName),
-        },
-    };
-    Cause {
-        tokens: Tokens { at, len },
-        why: Why::NoMain(found),
-    }
-}
-
 /// Why a program breaks a usage rule on a line, as [`check`](usage_checks::check) reports it: which tokens of the line
 /// are meant, why, and what is known of the names in them. The tokens are those of that line.
 pub fn usage_reason<'a>(
@@ -180,13 +140,18 @@ pub fn usage_reason<'a>(
     fault: UsageFault,
 ) -> Result<Option<Reason<'a>>, AllocError>
     // The reason is of the fault's line and number, and its tokens are some of the line's.
-    ensures { IfOk result (λ found. IfSome found (IsReasonOf (length tokens.now) fault)) }
+    ensures is_of { IfOk result (λ found. IfSome found (IsReasonOf (length tokens.now) fault)) }
+
+    // O19 is told of the last item.
+    ensures main { fault.number ≡ NO_MAIN → IfOk result (λ found.
+        IfSome found (λ r. IsMainReason (map item_of program.now.items.items) r.why)) }
 {
-    let mut walk = Walk::new(alloc, tokens, fault);
     if fault.number == NO_MAIN {
-        walk.explain(Some(no_main(program.items().last())));
+        let reason = main_reason(alloc, program.items(), fault.line);
+        Ok(tested(tokens.len(), fault, reason))
     } else {
+        let mut walk = Walk::new(alloc, tokens, fault);
         walk.items(program.items());
+        walk.finish(tokens.len(), fault)
     }
-    walk.finish(tokens.len(), fault)
 }

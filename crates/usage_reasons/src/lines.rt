@@ -1,5 +1,11 @@
 //! The part of a line that breaks a rule of expressions.
 
+ghost use Rattle.std.specs.Prelude.{◌≡◌, IfSome, option_map};
+ghost use Rattle.scalar_ranges.specs.Entries.{meaning_in};
+ghost use Rattle.scalar_ranges.specs.Scopes.{entries_of, meaning_of};
+ghost use Rattle.usage_reasons.specs.Causes.{Explains};
+ghost use Rattle.usage_reasons.specs.Sorts.{carried};
+
 use crate::cause::{Cause, Rule};
 use crate::expressions::{in_expression, in_name};
 use crate::reason::{Sort, Tokens, Why};
@@ -12,13 +18,16 @@ use scalar_ranges::{ExprType, Meaning, Scope, type_of, type_of_values};
 use usage_checks::Wanted;
 
 /// The part of an expression that breaks a rule where this is wanted.
+#[tactic(auto, using(crate::proofs::Parts::of_cause))]
 pub(crate) fn in_wanted<'a>(
     scope: &Scope<'a>,
     rule: Rule,
     at: usize,
     wanted: Wanted,
     expr: &Expr<'a>,
-) -> Option<Cause<'a>> {
+) -> Option<Cause<'a>>
+    ensures { IfSome result (Explains (entries_of scope.now)) }
+{
     if rule == Rule::Constants && !matches!(wanted, Wanted::Constant(_)) {
         return None;
     }
@@ -34,6 +43,7 @@ pub(crate) fn in_wanted<'a>(
 }
 
 /// The part of a subscript that breaks a rule, which follows what has this name.
+#[tactic(auto, using(crate::proofs::Parts::of_cause))]
 pub(crate) fn in_subscript<'a>(
     scope: &Scope<'a>,
     rule: Rule,
@@ -41,7 +51,9 @@ pub(crate) fn in_subscript<'a>(
     wanted: Wanted,
     name: &[u8],
     subscript: &Expr<'a>,
-) -> Option<Cause<'a>> {
+) -> Option<Cause<'a>>
+    ensures { IfSome result (Explains (entries_of scope.now)) }
+{
     if let Some(cause) = in_wanted(scope, rule, at, wanted, subscript) {
         return Some(cause);
     }
@@ -59,13 +71,16 @@ struct Role {
 }
 
 /// The part of a place that breaks a rule.
+#[tactic(auto, using(crate::proofs::Parts::of_cause))]
 fn in_place<'a>(
     scope: &Scope<'a>,
     rule: Rule,
     at: usize,
     role: Role,
     place: &Place<'a>,
-) -> Option<Cause<'a>> {
+) -> Option<Cause<'a>>
+    ensures { IfSome result (Explains (entries_of scope.now)) }
+{
     let sort = match &place.subscript {
         None => role.whole,
         Some(_) => role.subscripted,
@@ -91,7 +106,9 @@ fn in_place<'a>(
 }
 
 /// The part of a place that breaks a rule which something is assigned to or received into.
-fn in_target<'a>(scope: &Scope<'a>, rule: Rule, at: usize, place: &Place<'a>) -> Option<Cause<'a>> {
+fn in_target<'a>(scope: &Scope<'a>, rule: Rule, at: usize, place: &Place<'a>) -> Option<Cause<'a>>
+    ensures { IfSome result (Explains (entries_of scope.now)) }
+{
     let role = Role {
         whole: Sort::Variable,
         subscripted: Sort::VariableArray,
@@ -101,12 +118,9 @@ fn in_target<'a>(scope: &Scope<'a>, rule: Rule, at: usize, place: &Place<'a>) ->
 }
 
 /// The part of a place that breaks a rule where a channel is wanted.
-fn in_channel<'a>(
-    scope: &Scope<'a>,
-    rule: Rule,
-    at: usize,
-    place: &Place<'a>,
-) -> Option<Cause<'a>> {
+fn in_channel<'a>(scope: &Scope<'a>, rule: Rule, at: usize, place: &Place<'a>) -> Option<Cause<'a>>
+    ensures { IfSome result (Explains (entries_of scope.now)) }
+{
     let role = Role {
         whole: Sort::Channel,
         subscripted: Sort::ChannelArray,
@@ -116,7 +130,9 @@ fn in_channel<'a>(
 }
 
 /// The type of a variable, of the elements of an array, or of what a channel carries.
-fn carried(meaning: Option<Meaning>) -> Option<ExprType> {
+fn carried(meaning: Option<Meaning>) -> Option<ExprType>
+    ensures { result ≡ carried (option_map meaning_of meaning) }
+{
     match meaning? {
         Meaning::Constant { value_type, .. }
         | Meaning::Scalar { value_type, .. }
@@ -127,35 +143,63 @@ fn carried(meaning: Option<Meaning>) -> Option<ExprType> {
     }
 }
 
-/// Tokens of another type than the place that they go to.
-fn other_place_type<'a>(
-    tokens: Tokens,
-    found: Option<ExprType>,
-    place: Tokens,
-    wanted: Option<ExprType>,
-) -> Option<Cause<'a>> {
-    let (found, wanted) = (found?, wanted?);
-    if is_same(found, wanted) {
-        return None;
-    }
-    let why = Why::OtherPlaceType {
-        found,
-        wanted,
-        place,
-    };
-    Some(Cause { tokens, why })
+/// The type of what has this name, or of what it carries.
+fn carried_by(scope: &Scope, name: &[u8]) -> Option<ExprType>
+    ensures { result ≡ carried (meaning_in name.now (entries_of scope.now)) }
+{
+    carried(scope.meaning(name))
 }
 
 /// A value of another type than the place that it goes to, which is the first of the line.
-fn other_value<'a>(scope: &Scope<'a>, place: &Place<'a>, value: &Expr<'a>) -> Option<Cause<'a>> {
-    let len = width_of_place(place);
-    let tokens = Tokens {
-        at: plus(len, 1),
-        len: width_of(value),
+#[tactic(auto, using(crate::proofs::Parts::value_broken))]
+fn other_value<'a>(scope: &Scope<'a>, place: &Place<'a>, value: &Expr<'a>) -> Option<Cause<'a>>
+    ensures { IfSome result (Explains (entries_of scope.now)) }
+{
+    let Ok(found) = type_of(scope, value) else {
+        return None;
     };
-    let found = type_of(scope, value).ok();
-    let wanted = carried(scope.meaning(place.name));
-    other_place_type(tokens, found, Tokens { at: 0, len }, wanted)
+    let wanted = carried(scope.meaning(place.name))?;
+    if is_same(found, wanted) {
+        return None;
+    }
+    let before = width_of_place(place);
+    let len = width_of(value);
+    Some(Cause {
+        tokens: Tokens {
+            at: plus(before, 1),
+            len,
+        },
+        why: Why::OtherPlaceType {
+            found,
+            wanted,
+            place: Tokens { at: 0, len: before },
+        },
+    })
+}
+
+/// A variable of another type than the channel from which it is received, whose tokens these are. The variable begins at
+/// this token.
+fn other_target<'a>(
+    scope: &Scope<'a>,
+    at: usize,
+    channel: &[u8],
+    place: Tokens,
+    target: &Place<'a>,
+) -> Option<Cause<'a>> {
+    let found = carried_by(scope, target.name)?;
+    let wanted = carried_by(scope, channel)?;
+    if is_same(found, wanted) {
+        return None;
+    }
+    let len = width_of_place(target);
+    Some(Cause {
+        tokens: Tokens { at, len },
+        why: Why::OtherPlaceType {
+            found,
+            wanted,
+            place,
+        },
+    })
 }
 
 /// The part of an assignment that breaks a rule.
@@ -164,7 +208,9 @@ pub(crate) fn in_assignment<'a>(
     rule: Rule,
     target: &Place<'a>,
     value: &Expr<'a>,
-) -> Option<Cause<'a>> {
+) -> Option<Cause<'a>>
+    ensures { IfSome result (Explains (entries_of scope.now)) }
+{
     if let Some(cause) = in_target(scope, rule, 0, target) {
         return Some(cause);
     }
@@ -185,7 +231,9 @@ pub(crate) fn in_output<'a>(
     rule: Rule,
     channel: &Place<'a>,
     value: &Expr<'a>,
-) -> Option<Cause<'a>> {
+) -> Option<Cause<'a>>
+    ensures { IfSome result (Explains (entries_of scope.now)) }
+{
     if let Some(cause) = in_channel(scope, rule, 0, channel) {
         return Some(cause);
     }
@@ -216,19 +264,11 @@ pub(crate) fn in_input<'a>(
     if let Some(cause) = in_target(scope, rule, next, target) {
         return Some(cause);
     }
-    if rule != Rule::Types {
-        return None;
+    if rule == Rule::Types {
+        other_target(scope, next, channel.name, Tokens { at, len }, target)
+    } else {
+        None
     }
-    let tokens = Tokens {
-        at: next,
-        len: width_of_place(target),
-    };
-    other_place_type(
-        tokens,
-        carried(scope.meaning(target.name)),
-        Tokens { at, len },
-        carried(scope.meaning(channel.name)),
-    )
 }
 
 /// The part of a condition that breaks a rule.
@@ -236,7 +276,9 @@ pub(crate) fn in_condition<'a>(
     scope: &Scope<'a>,
     rule: Rule,
     condition: &Expr<'a>,
-) -> Option<Cause<'a>> {
+) -> Option<Cause<'a>>
+    ensures { IfSome result (Explains (entries_of scope.now)) }
+{
     in_wanted(
         scope,
         rule,
@@ -249,27 +291,42 @@ pub(crate) fn in_condition<'a>(
 /// Where the base of a replicator begins.
 const BASE: usize = 3;
 
-/// A count that is below 0, or that goes beyond the greatest INT from the base on.
-fn no_count<'a>(scope: &Scope<'a>, replicator: &Replicator<'a>) -> Option<Cause<'a>> {
-    let width = width_of(&replicator.base);
-    let at = plus_between(BASE, width);
-    let len = width_of(&replicator.count);
-    let count = value_as(scope, ExprType::Int, &replicator.count)?;
-    if count < 0 {
-        let tokens = Tokens { at, len };
-        let why = Why::CountBelowZero { count };
-        return Some(Cause { tokens, why });
+/// A count that is below 0.
+#[tactic(auto, using(crate::proofs::Parts::count_broken))]
+fn count_below_zero<'a>(scope: &Scope<'a>, at: usize, expr: &Expr<'a>) -> Option<Cause<'a>>
+    ensures { IfSome result (Explains (entries_of scope.now)) }
+{
+    let count = value_as(scope, ExprType::Int, expr)?;
+    if 0 <= count {
+        return None;
     }
+    let len = width_of(expr);
+    Some(Cause {
+        tokens: Tokens { at, len },
+        why: Why::CountBelowZero { count },
+    })
+}
+
+/// A base and a count whose last index is beyond the greatest INT.
+fn last_index<'a>(scope: &Scope<'a>, replicator: &Replicator<'a>) -> Option<Cause<'a>> {
     let base = value_as(scope, ExprType::Int, &replicator.base)?;
+    let count = value_as(scope, ExprType::Int, &replicator.count)?;
     if i64::from(base) + i64::from(count) <= i64::from(i32::MAX) + 1 {
         return None;
     }
-    let tokens = Tokens {
-        at: BASE,
-        len: plus_between(width, len),
-    };
-    let why = Why::LastIndex { base, count };
-    Some(Cause { tokens, why })
+    let len = plus_between(width_of(&replicator.base), width_of(&replicator.count));
+    Some(Cause {
+        tokens: Tokens { at: BASE, len },
+        why: Why::LastIndex { base, count },
+    })
+}
+
+/// A count that is below 0, or that goes beyond the greatest INT from the base on.
+fn no_count<'a>(scope: &Scope<'a>, at: usize, replicator: &Replicator<'a>) -> Option<Cause<'a>> {
+    if let Some(cause) = count_below_zero(scope, at, &replicator.count) {
+        return Some(cause);
+    }
+    last_index(scope, replicator)
 }
 
 /// The part of the head of a replicated block that breaks a rule.
@@ -287,7 +344,7 @@ pub(crate) fn in_replicator<'a>(
         return Some(cause);
     }
     if rule == Rule::Ranges {
-        no_count(scope, replicator)
+        no_count(scope, next, replicator)
     } else {
         None
     }

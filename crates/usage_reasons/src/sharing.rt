@@ -1,14 +1,19 @@
 //! What two components of a `PAR` share, and on which lines.
 
 use crate::cause::Cause;
-use crate::reason::{Deed, KnownName, Tokens, Why};
+use crate::known::Names;
+use crate::reason::{Deed, Tokens, Why};
 use crate::walk::Walk;
-use occam_parser::{Action, Body, Branch, Construct, Expr, Guard, Place, Process, Replicator};
+use occam_parser::{
+    Action, Body, Branch, Choice, Construct, Expr, Guard, Place, Process, Replicator,
+};
 use program_uses::{
-    Around, CHANNEL_USE, Direction, End, Parameter, Passing, SHARED_VARIABLE, Use, Uses, add_name,
+    Around, Direction, End, Parameter, Passing, SHARED_VARIABLE, Signature, Use, Uses, add_name,
     add_outlines, array_at, index_meaning, is_sequence, parameter_at, passing_of, place_in,
     place_ref, spot_of, turns_of,
 };
+use scalar_ranges::{Meaning, Scope};
+use std::alloc::Global;
 use std::collections::BTreeMap;
 
 /// How many turns of replicators are gone over at most.
@@ -32,7 +37,7 @@ struct Shared {
 
 /// What the components of a `PAR` use, as far as they were gone over.
 #[derive(Drop)]
-pub(crate) struct Sharing {
+struct Sharing {
     /// How many names there are around the `PAR`.
     count: usize,
     /// The number of the component that is gone over.
@@ -41,10 +46,28 @@ pub(crate) struct Sharing {
     seen: BTreeMap<Use, Site>,
     turns_left: u32,
     found: Option<Shared>,
+    /// Whether memory was enough.
     complete: bool,
 }
 
 impl Sharing {
+    /// Nothing is used yet, where a scope has this many names.
+    fn new(alloc: Global, count: usize) -> Sharing {
+        Sharing {
+            count,
+            component: 0,
+            seen: BTreeMap::new(alloc),
+            turns_left: MAX_TURNS,
+            found: None,
+            complete: true,
+        }
+    }
+
+    /// The next component begins.
+    fn next(&mut self) {
+        self.component = self.component.saturating_add(1);
+    }
+
     /// The line of another component that uses this, if there is one.
     fn other_line(&self, item: Use) -> Option<u32> {
         match self.seen.get(&item) {
@@ -98,6 +121,23 @@ impl Sharing {
         }
     }
 
+    /// These ends of a channel are used on a line, of one element or of all.
+    fn add_ends(&mut self, channel: usize, element: Option<u32>, ends: &[End], line: u32) {
+        for end in ends {
+            let end = End {
+                element: element.unwrap_or(end.element),
+                direction: end.direction,
+            };
+            self.add_end(channel, end, line);
+        }
+    }
+
+    /// The variables among some uses are used on a line.
+    fn add_uses(&mut self, line: u32, used: &Uses) {
+        self.complete = self.complete && used.is_complete();
+        self.add_variables(used, line);
+    }
+
     /// These variables are used on a line.
     fn add_variables(&mut self, used: &Uses, line: u32) {
         for number in 0..self.count {
@@ -126,269 +166,312 @@ fn deed_of(item: Use) -> Deed {
     }
 }
 
+/// Why components share what they may not share.
+fn why_shared<'a>(names: Names<'_, 'a>, shared: Shared) -> Option<Why<'a>> {
+    match shared.second {
+        Use::Read(number) | Use::Change(number) => Some(Why::SharedVariable {
+            variable: names.declared(number)?,
+            first: shared.first_line,
+            first_deed: deed_of(shared.first),
+            second: shared.second_line,
+            second_deed: deed_of(shared.second),
+        }),
+        Use::Channel {
+            channel,
+            element,
+            direction,
+        } => Some(Why::SharedChannel {
+            channel: names.declared(channel)?,
+            element,
+            direction,
+            first: shared.first_line,
+            second: shared.second_line,
+        }),
+    }
+}
+
+/// What components of a `PAR` share, whose first token is meant.
+fn cause_of<'a>(names: Names<'_, 'a>, shared: Option<Shared>) -> Option<Cause<'a>> {
+    let why = why_shared(names, shared?)?;
+    let tokens = Tokens { at: 0, len: 1 };
+    Some(Cause { tokens, why })
+}
+
 impl<'a> Walk<'_, 'a> {
-    /// The declaration with this number.
-    fn known_number(&self, number: usize) -> Option<KnownName<'a>> {
-        let entry = self.scope.entry(number)?;
-        Some(KnownName {
-            name: entry.name,
-            meaning: entry.meaning,
-            line: self.line_of(number),
-        })
-    }
-
-    /// Why components share what they may not share.
-    fn why_shared(&self, shared: Shared) -> Option<Why<'a>> {
-        match shared.second {
-            Use::Read(number) | Use::Change(number) => Some(Why::SharedVariable {
-                variable: self.known_number(number)?,
-                first: shared.first_line,
-                first_deed: deed_of(shared.first),
-                second: shared.second_line,
-                second_deed: deed_of(shared.second),
-            }),
-            Use::Channel {
-                channel,
-                element,
-                direction,
-            } => Some(Why::SharedChannel {
-                channel: self.known_number(channel)?,
-                element,
-                direction,
-                first: shared.first_line,
-                second: shared.second_line,
-            }),
-        }
-    }
-
-    /// What components of the `PAR` on the line at fault were found to share.
+    /// What was found to be shared by components of the `PAR` on the line at fault.
     fn explain_shared(&mut self, sharing: &Sharing) {
         self.complete = self.complete && sharing.complete;
-        let Some(shared) = sharing.found else { return };
-        if let Some(why) = self.why_shared(shared) {
-            let tokens = Tokens { at: 0, len: 1 };
-            self.explain(Some(Cause { tokens, why }));
-        }
-    }
-
-    /// Nothing is used yet.
-    fn sharing(&self) -> Sharing {
-        Sharing {
-            count: self.scope.len(),
-            component: 0,
-            seen: BTreeMap::new(self.alloc),
-            turns_left: MAX_TURNS,
-            found: None,
-            complete: true,
-        }
+        let cause = cause_of(self.names(), sharing.found);
+        self.explain(cause);
     }
 
     /// What the components of the `PAR` on the line at fault share.
     pub(crate) fn explain_par(&mut self, processes: &[Process<'a>]) {
-        let mut sharing = self.sharing();
-        for process in processes {
-            self.share(&mut sharing, process);
-            sharing.component = sharing.component.saturating_add(1);
-        }
+        let mut sharing = Sharing::new(self.alloc, self.scope.len());
+        let search = Search {
+            alloc: self.alloc,
+            signatures: &self.signatures,
+            number: self.fault.number,
+        };
+        search.components(&mut self.scope, &mut sharing, processes);
         self.explain_shared(&sharing);
     }
 
     /// What the turns of the `PAR` under a replicator share, which is on the line at fault.
     pub(crate) fn explain_turns(&mut self, replicator: &Replicator<'a>, body: &Body<'a>) {
         let Body::Par(process) = body else { return };
-        let mut sharing = self.sharing();
-        let turns = turns_of(true, &self.scope, false, replicator);
-        for turn in 0..sharing.turns(turns.count) {
-            let count = self.scope.len();
-            let meaning = index_meaning(false, turns.index_at(turn));
-            let added = add_name(&mut self.scope, replicator.name, meaning).is_ok();
-            self.complete = self.complete && added;
-            self.share(&mut sharing, process);
-            self.scope.leave(count);
-            sharing.component = sharing.component.saturating_add(1);
-        }
+        let mut sharing = Sharing::new(self.alloc, self.scope.len());
+        let search = Search {
+            alloc: self.alloc,
+            signatures: &self.signatures,
+            number: self.fault.number,
+        };
+        search.turns(&mut self.scope, &mut sharing, replicator, process);
         self.explain_shared(&sharing);
+    }
+}
+
+/// What the search for shared uses knows besides the names.
+#[derive(Clone, Copy)]
+struct Search<'s> {
+    alloc: Global,
+    signatures: &'s [Signature],
+    /// The number of the rule that is broken.
+    number: u8,
+}
+
+/// A name more, whose declaration says this.
+fn add<'a>(scope: &mut Scope<'a>, sharing: &mut Sharing, name: &'a [u8], meaning: Meaning) {
+    let added = add_name(scope, name, meaning).is_ok();
+    sharing.complete = sharing.complete && added;
+}
+
+impl<'s> Search<'s> {
+    /// What components use.
+    fn components<'a>(
+        self,
+        scope: &mut Scope<'a>,
+        sharing: &mut Sharing,
+        processes: &[Process<'a>],
+    ) {
+        for process in processes {
+            self.process(scope, sharing, process);
+            sharing.next();
+        }
+    }
+
+    /// What a component under a replicator uses in each turn.
+    fn turns<'a>(
+        self,
+        scope: &mut Scope<'a>,
+        sharing: &mut Sharing,
+        replicator: &Replicator<'a>,
+        process: &Process<'a>,
+    ) {
+        let turns = turns_of(true, scope, false, replicator);
+        let count = scope.len();
+        for turn in 0..sharing.turns(turns.count) {
+            let meaning = index_meaning(false, turns.index_at(turn));
+            add(scope, sharing, replicator.name, meaning);
+            self.process(scope, sharing, process);
+            scope.leave(count);
+            sharing.next();
+        }
     }
 
     /// What a process uses.
     #[cycle(share)]
-    fn share(&mut self, sharing: &mut Sharing, process: &Process<'a>) {
+    fn process<'a>(self, scope: &mut Scope<'a>, sharing: &mut Sharing, process: &Process<'a>) {
         if sharing.found.is_some() {
             return;
         }
-        let count = self.scope.len();
-        let added = add_outlines(&mut self.scope, &process.declarations).is_ok();
-        self.complete = self.complete && added;
-        self.share_construct(sharing, process.line, &process.construct);
-        self.scope.leave(count);
+        let count = scope.len();
+        let added = add_outlines(scope, &process.declarations).is_ok();
+        sharing.complete = sharing.complete && added;
+        self.construct(scope, sharing, process.line, &process.construct);
+        scope.leave(count);
     }
 
     /// What a construct uses that begins on this line.
     #[cycle(share)]
-    fn share_construct(&mut self, sharing: &mut Sharing, line: u32, construct: &Construct<'a>) {
+    fn construct<'a>(
+        self,
+        scope: &mut Scope<'a>,
+        sharing: &mut Sharing,
+        line: u32,
+        construct: &Construct<'a>,
+    ) {
         match construct {
-            Construct::Action(action) => self.share_action(sharing, line, action),
+            Construct::Action(action) => self.action(scope, sharing, line, action),
             Construct::Seq(processes) | Construct::Par(processes) => {
                 for process in processes {
-                    self.share(sharing, process);
+                    self.process(scope, sharing, process);
                 }
             }
             Construct::If(choices) => {
                 for choice in choices {
-                    self.share_condition(sharing, choice.line, &choice.condition);
-                    self.share(sharing, &choice.process);
+                    self.choice(scope, sharing, choice);
                 }
             }
             Construct::Alt(branches) => {
                 for branch in branches {
-                    self.share_branch(sharing, branch);
+                    self.branch(scope, sharing, branch);
                 }
             }
             Construct::Replicated { replicator, body } => {
-                self.share_turns(sharing, replicator, body);
+                self.repeated(scope, sharing, replicator, body);
             }
         }
     }
 
     /// What the turns of a body use.
     #[cycle(share)]
-    fn share_turns(&mut self, sharing: &mut Sharing, replicator: &Replicator<'a>, body: &Body<'a>) {
+    fn repeated<'a>(
+        self,
+        scope: &mut Scope<'a>,
+        sharing: &mut Sharing,
+        replicator: &Replicator<'a>,
+        body: &Body<'a>,
+    ) {
         let sequential = is_sequence(body);
-        let turns = turns_of(true, &self.scope, sequential, replicator);
+        let turns = turns_of(true, scope, sequential, replicator);
+        let count = scope.len();
         for turn in 0..sharing.turns(turns.count) {
-            let count = self.scope.len();
             let meaning = index_meaning(sequential, turns.index_at(turn));
-            let added = add_name(&mut self.scope, replicator.name, meaning).is_ok();
-            self.complete = self.complete && added;
-            self.share_body(sharing, body);
-            self.scope.leave(count);
+            add(scope, sharing, replicator.name, meaning);
+            self.body(scope, sharing, body);
+            scope.leave(count);
         }
     }
 
     /// What a body uses in one turn.
     #[cycle(share)]
-    fn share_body(&mut self, sharing: &mut Sharing, body: &Body<'a>) {
+    fn body<'a>(self, scope: &mut Scope<'a>, sharing: &mut Sharing, body: &Body<'a>) {
         match body {
-            Body::Seq(process) | Body::Par(process) => self.share(sharing, process),
-            Body::If(choice) => {
-                self.share_condition(sharing, choice.line, &choice.condition);
-                self.share(sharing, &choice.process);
-            }
-            Body::Alt(branch) => self.share_branch(sharing, branch),
+            Body::Seq(process) | Body::Par(process) => self.process(scope, sharing, process),
+            Body::If(choice) => self.choice(scope, sharing, choice),
+            Body::Alt(branch) => self.branch(scope, sharing, branch),
         }
+    }
+
+    /// What a choice of an `IF` uses.
+    #[cycle(share)]
+    fn choice<'a>(self, scope: &mut Scope<'a>, sharing: &mut Sharing, choice: &Choice<'a>) {
+        self.condition(scope, sharing, choice.line, &choice.condition);
+        self.process(scope, sharing, &choice.process);
     }
 
     /// What a branch of an `ALT` uses.
     #[cycle(share)]
-    fn share_branch(&mut self, sharing: &mut Sharing, branch: &Branch<'a>) {
-        self.share_guard(sharing, branch.line, &branch.guard);
-        self.share(sharing, &branch.process);
+    fn branch<'a>(self, scope: &mut Scope<'a>, sharing: &mut Sharing, branch: &Branch<'a>) {
+        self.guard(scope, sharing, branch.line, &branch.guard);
+        self.process(scope, sharing, &branch.process);
     }
 
     /// What a condition uses.
-    fn share_condition(&self, sharing: &mut Sharing, line: u32, condition: &Expr<'a>) {
-        if self.fault.number == SHARED_VARIABLE {
+    fn condition(self, scope: &Scope, sharing: &mut Sharing, line: u32, condition: &Expr) {
+        if self.number == SHARED_VARIABLE {
             let mut used = Uses::new(self.alloc);
-            used.read(&self.scope, condition);
-            self.share_uses(sharing, line, &used);
+            used.read(scope, condition);
+            sharing.add_uses(line, &used);
         }
     }
 
     /// What a guard uses.
-    fn share_guard(&self, sharing: &mut Sharing, line: u32, guard: &Guard<'a>) {
-        if self.fault.number == SHARED_VARIABLE {
+    fn guard(self, scope: &Scope, sharing: &mut Sharing, line: u32, guard: &Guard) {
+        if self.number == SHARED_VARIABLE {
             let mut used = Uses::new(self.alloc);
-            used.guard(&self.scope, guard);
-            self.share_uses(sharing, line, &used);
+            used.guard(scope, guard);
+            sharing.add_uses(line, &used);
         } else if let Guard::Input { channel, .. } = guard {
-            self.share_place(sharing, line, channel, Direction::Input);
+            add_place(scope, sharing, line, channel, Direction::Input);
         }
     }
 
     /// What an action uses.
-    fn share_action(&self, sharing: &mut Sharing, line: u32, action: &Action<'a>) {
-        if self.fault.number == SHARED_VARIABLE {
+    fn action(self, scope: &Scope, sharing: &mut Sharing, line: u32, action: &Action) {
+        if self.number == SHARED_VARIABLE {
             let around = Around {
-                signatures: &self.signatures,
+                signatures: self.signatures,
                 uncounted: None,
             };
             let mut used = Uses::new(self.alloc);
-            used.act(around, &self.scope, line, action);
-            self.share_uses(sharing, line, &used);
+            used.act(around, scope, line, action);
+            sharing.add_uses(line, &used);
         } else {
-            self.share_ends(sharing, line, action);
+            self.ends(scope, sharing, line, action);
         }
-    }
-
-    /// The variables among some uses are used.
-    fn share_uses(&self, sharing: &mut Sharing, line: u32, used: &Uses) {
-        sharing.complete = sharing.complete && used.is_complete();
-        sharing.add_variables(used, line);
     }
 
     /// The ends of channels that an action uses.
-    fn share_ends(&self, sharing: &mut Sharing, line: u32, action: &Action<'a>) {
+    fn ends(self, scope: &Scope, sharing: &mut Sharing, line: u32, action: &Action) {
         match action {
             Action::Skip | Action::Stop | Action::Assign { .. } => {}
             Action::Input { channel, .. } => {
-                self.share_place(sharing, line, channel, Direction::Input);
+                add_place(scope, sharing, line, channel, Direction::Input);
             }
             Action::Output { channel, .. } => {
-                self.share_place(sharing, line, channel, Direction::Output);
+                add_place(scope, sharing, line, channel, Direction::Output);
             }
             Action::Instance { name, actuals } => {
-                let procedure = self.scope.meaning(name);
-                for (place, actual) in actuals.iter().enumerate() {
-                    if let Some(parameter) = parameter_at(&self.signatures, procedure, place) {
-                        self.share_actual(sharing, line, parameter, actual);
-                    }
-                }
+                self.actuals(scope, sharing, line, name, actuals);
             }
         }
     }
 
-    /// The end of a channel that is received from, or sent to.
-    fn share_place(
-        &self,
+    /// The ends of channels that a procedure uses of its actuals.
+    fn actuals(
+        self,
+        scope: &Scope,
         sharing: &mut Sharing,
         line: u32,
-        channel: &Place<'a>,
-        direction: Direction,
+        name: &[u8],
+        actuals: &[Expr],
     ) {
-        if let Some(spot) = spot_of(&self.scope, place_ref(channel)) {
-            let element = spot.element;
-            sharing.add_end(spot.channel, End { element, direction }, line);
+        let procedure = scope.meaning(name);
+        for (place, actual) in actuals.iter().enumerate() {
+            if let Some(parameter) = parameter_at(self.signatures, procedure, place) {
+                add_actual(scope, sharing, line, parameter, actual);
+            }
         }
     }
+}
 
-    /// The ends of channels that a procedure uses of an actual.
-    fn share_actual(
-        &self,
-        sharing: &mut Sharing,
-        line: u32,
-        parameter: &Parameter,
-        actual: &Expr<'a>,
-    ) {
-        let Some(place) = place_in(actual) else {
-            return
-        };
-        match passing_of(parameter.meaning) {
-            Passing::Value | Passing::Variable => {}
-            Passing::Channel => {
-                if let Some(spot) = spot_of(&self.scope, place) {
-                    for end in &parameter.ends {
-                        let element = spot.element;
-                        let direction = end.direction;
-                        sharing.add_end(spot.channel, End { element, direction }, line);
-                    }
-                }
+/// The end of a channel that is received from, or sent to.
+fn add_place(
+    scope: &Scope,
+    sharing: &mut Sharing,
+    line: u32,
+    channel: &Place,
+    direction: Direction,
+) {
+    if let Some(spot) = spot_of(scope, place_ref(channel)) {
+        let element = spot.element;
+        sharing.add_end(spot.channel, End { element, direction }, line);
+    }
+}
+
+/// The ends of channels that a procedure uses of an actual.
+fn add_actual(
+    scope: &Scope,
+    sharing: &mut Sharing,
+    line: u32,
+    parameter: &Parameter,
+    actual: &Expr,
+) {
+    let Some(place) = place_in(actual) else {
+        return
+    };
+    match passing_of(parameter.meaning) {
+        Passing::Value | Passing::Variable => {}
+        Passing::Channel => {
+            if let Some(spot) = spot_of(scope, place) {
+                sharing.add_ends(spot.channel, Some(spot.element), &parameter.ends, line);
             }
-            Passing::Channels => {
-                if let Some(channel) = array_at(&self.scope, place) {
-                    for end in &parameter.ends {
-                        sharing.add_end(channel, *end, line);
-                    }
-                }
+        }
+        Passing::Channels => {
+            if let Some(channel) = array_at(scope, place) {
+                sharing.add_ends(channel, None, &parameter.ends, line);
             }
         }
     }

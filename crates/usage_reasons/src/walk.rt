@@ -1,11 +1,14 @@
 //! The walk over a program once more, as far as the line at fault.
 
-ghost use Rattle.std.specs.Prelude.{◌≡◌, true, IfOk, IfSome};
+ghost use Rattle.std.specs.Prelude.{◌≡◌, true, Some, IfOk, IfSome};
 ghost use Rattle.usage_reasons.specs.Reasons.{IsReasonOf};
 
-use crate::reason::{KnownName, Reason, Tokens};
+use crate::cause::Cause;
+use crate::known::Names;
+use crate::reason::{Reason, Tokens};
+use crate::site::{Part, Site};
 use occam_layout::Token;
-use program_uses::{Signature, UsageFault};
+use program_uses::{DECLARED_TWICE, Signature, UsageFault};
 use scalar_ranges::{Entry, Meaning, Scope};
 use std::alloc::{AllocError, Global};
 use usage_checks::Position;
@@ -20,8 +23,13 @@ fn is_reason_of(count: usize, fault: UsageFault, reason: &Reason) -> bool
 }
 
 /// A reason, if it is of this fault, and its tokens are among this many.
-fn tested<'a>(count: usize, fault: UsageFault, reason: Option<Reason<'a>>) -> Option<Reason<'a>>
-    ensures { IfSome result (IsReasonOf count fault) }
+pub(crate) fn tested<'a>(
+    count: usize,
+    fault: UsageFault,
+    reason: Option<Reason<'a>>,
+) -> Option<Reason<'a>>
+    ensures is_of { IfSome result (IsReasonOf count fault) }
+    ensures same { IfSome result (λ r. reason.entry ≡ Some r) }
 {
     let reason = reason?;
     if is_reason_of(count, fault, &reason) {
@@ -92,14 +100,48 @@ impl<'l, 'a> Walk<'l, 'a> {
         self.reason.is_some() || !self.complete || line > self.fault.line
     }
 
-    /// Whether a rule with this number is broken on this line.
-    pub(crate) fn asks(&self, line: u32, number: u8) -> bool {
-        self.fault.line == line && self.fault.number == number
+    /// The names that are known here.
+    pub(crate) fn names(&self) -> Names<'_, 'a> {
+        Names {
+            scope: &self.scope,
+            lines: &self.lines,
+        }
     }
 
-    /// The line of a declaration.
-    pub(crate) fn line_of(&self, number: usize) -> u32 {
-        self.lines.get(number).copied().unwrap_or(0)
+    /// What is known here, where the line at fault is.
+    fn site(&self) -> Site<'_, 'a> {
+        Site {
+            scope: &self.scope,
+            signatures: &self.signatures,
+            position: self.position,
+            number: self.fault.number,
+            len: self.tokens.len(),
+            is_repeated: self.is_repeated,
+        }
+    }
+
+    /// The reason that a cause is, with what is known here.
+    pub(crate) fn explain(&mut self, cause: Option<Cause<'a>>) {
+        let Some(cause) = cause else { return };
+        match self.names().known_in(self.alloc, self.tokens, cause) {
+            Ok(known) => {
+                self.reason = Some(Reason {
+                    line: self.fault.line,
+                    tokens: cause.tokens,
+                    why: cause.why,
+                    known,
+                });
+            }
+            Err(_) => self.complete = false,
+        }
+    }
+
+    /// A part of this line, which may be the one at fault.
+    pub(crate) fn look(&mut self, line: u32, part: Part<'_, 'a>) {
+        if line == self.fault.line {
+            let cause = self.site().cause(part);
+            self.explain(cause);
+        }
     }
 
     /// One name more in the scope.
@@ -110,13 +152,13 @@ impl<'l, 'a> Walk<'l, 'a> {
         self.complete = self.complete && listed && declared;
     }
 
-    /// What is known of a name.
-    pub(crate) fn known(&self, name: &'a [u8]) -> Option<KnownName<'a>> {
-        let found = self.scope.lookup(name)?;
-        Some(KnownName {
-            name,
-            meaning: found.meaning,
-            line: self.line_of(found.number),
-        })
+    /// A name that a line declares, of the scope whose first declaration has this number.
+    pub(crate) fn enter(&mut self, first: usize, line: u32, name: &'a [u8], meaning: Meaning) {
+        let is_asked = self.fault.line == line && self.fault.number == DECLARED_TWICE;
+        if is_asked && self.reason.is_none() {
+            let cause = self.names().twice(first, line, self.tokens, name);
+            self.explain(cause);
+        }
+        self.declare(line, name, meaning);
     }
 }
