@@ -178,16 +178,15 @@ passing_rest m s =
 
 -- ---- the callee's frame
 
--- each word of the callee's frame may be written
+-- whether each word of the callee's frame may be written
 pub is_own : (c : Calling) (first : ℤ) (n : ℕ) (usable : Bool) → first ≡ callee_word c.state c.callee.lo
     → n ≡ frame_size c.callee → usable ≡ all_words (rights.may_write_word c.contents c.state.context) first n
-    → usable ≡ true → true ≡ frame_is_own c
+    → usable ≡ frame_is_own c
 unfolding frame_is_own
-is_own c first n usable first_is n_is usable_is holds =
-    sym holds
-    ∙ (usable_is
+is_own c first n usable first_is n_is usable_is =
+    usable_is
     ∙ (ap (λ (k : ℤ). all_words (rights.may_write_word c.contents c.state.context) k n) first_is
-    ∙ ap (all_words (rights.may_write_word c.contents c.state.context) (callee_word c.state c.callee.lo)) n_is))
+    ∙ ap (all_words (rights.may_write_word c.contents c.state.context) (callee_word c.state c.callee.lo)) n_is)
 
 -- the word that is returned
 pub handed_word : (usable : Option ℤ) (first w : ℤ) → usable ≡ Some first → IfSome usable (λ k. k ≡ w) → first ≡ w

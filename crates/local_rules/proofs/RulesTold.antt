@@ -99,20 +99,24 @@ stores_told r after site e d s a b q p leaving holds size first second holds_is 
 pub order_told : (a b first second : ℤ) → a ≡ first → b ≡ second → int_le a b ≡ int_le first second
 order_told a b first second a_is b_is = ap (λ (z : ℤ). int_le z b) a_is ∙ ap (int_le first) b_is
 
+-- bytes that may be read are moved as the test of those that are written says
+pub moves-by : (site : Site) (count d end : ℤ) (from to : Pointed) (s : State) (ruling : Ruling)
+    → d ≡ count → ((k : Ruling) → reads_bytes site s from.region from.lo (from.hi +ℤ d) k ≡ k) → end ≡ to.hi +ℤ count
+    → writes_bytes site s to.region to.lo end (come site count from to s) ≡ ruling
+    → moves_some site count from to s ≡ ruling
+unfolding moves_some
+moves-by site count d end from to s ruling d_is reads end_is writes =
+    subst (λ (z : ℤ). reads_bytes site s from.region from.lo (from.hi +ℤ z)
+    (writes_bytes site s to.region to.lo (to.hi +ℤ count) (come site count from to s)) ≡ ruling) d_is
+    (reads _
+    ∙ subst (λ (z : ℤ). writes_bytes site s to.region to.lo z (come site count from to s) ≡ ruling) end_is writes)
+
 -- bytes are moved, where each test passes
 pub moves_told : (r : Result Continuation Rule) (after : State) (site : Site) (count d end : ℤ)
     (from to : Pointed) (s : State)
     → d ≡ count → ((k : Ruling) → reads_bytes site s from.region from.lo (from.hi +ℤ d) k ≡ k) → end ≡ to.hi +ℤ count
     → ((k : Ruling) → writes_bytes site s to.region to.lo end k ≡ k)
     → Advances r after (come site count from to s) → Advances r after (moves_some site count from to s)
-unfolding moves_some
 moves_told r after site count d end from to s d_is reads end_is writes told =
-    subst (λ (t : Ruling). Advances r after t) (sym is) told
-  where
-    is : moves_some site count from to s ≡ come site count from to s
-    is = subst (λ (z : ℤ). reads_bytes site s from.region from.lo (from.hi +ℤ z)
-        (writes_bytes site s to.region to.lo (to.hi +ℤ count) (come site count from to s))
-        ≡ come site count from to s) d_is
-        (reads _ ∙ subst (λ (z : ℤ). writes_bytes site s to.region to.lo z (come site count from to s)
-        ≡ come site count from to s)
-        end_is (writes _))
+    subst (λ (t : Ruling). Advances r after t)
+    (sym (moves-by site count d end from to s _ d_is reads end_is (writes _))) told

@@ -6,3 +6,4 @@ pub mod NamedParameters
 pub mod PairJudged
 pub mod Paying
 pub mod WordTests
+pub mod EmptyChannels

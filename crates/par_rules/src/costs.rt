@@ -49,7 +49,7 @@ fn are_readable(entries: &[Entry]) -> bool
 /// What the label of the branch that a state starts costs. It takes the time of a comparison with a label.
 pub(crate) fn cost_of_branch(
     place: &Place,
-    state: &State,
+    state: &mut State,
     found: &Found,
     row: &LabelRow,
 ) -> Option<u128>
@@ -57,9 +57,10 @@ pub(crate) fn cost_of_branch(
     requires context { found.now.context ≡ context_of place.now.module.now (found_view found.now) }
     requires numbered { IsNumbered place.now.module.now found.now }
     requires label { label_at place.now.module.now found.now.branch.now.entry ≡ Some (label_of row.now) }
-    ensures { let m = place.now.module.now in
+    ensures cost { let m = place.now.module.now in
         let f = found_view found.now in
-        IfSome result (IsCostOf (branch_view m (context_of m f) f.branch (state_of state.now)) (label_of row.now)) }
+        IfSome result (IsCostOf (branch_view m (context_of m f) f.branch (state_of state.old)) (label_of row.now)) }
+    ensures left { IsLeft state.old state.new }
 {
     label_rows_are_sound();
     if !place.module.label_is_seen(found.context) {

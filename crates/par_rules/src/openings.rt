@@ -1,6 +1,6 @@
 //! What a PAR wants where its first branch is started.
 
-ghost use Rattle.std.specs.Prelude.{◌≡◌, ◌&&◌, pos, ◌+ℤ◌, length};
+ghost use Rattle.std.specs.Prelude.{◌≡◌, ◌&&◌, ◌≤◌, ◌≤ℤ◌, ◌<ℤ◌, ℤ, Bool, true, pos, ◌+ℤ◌, length};
 ghost use Rattle.std.specs.List.{list_all};
 ghost use Rattle.word_arithmetic.specs.Word.{least_word};
 ghost use Rattle.module_format.specs.declared.rows.ChannelRow.{ChannelRow};
@@ -185,12 +185,39 @@ fn owns_channels(module: &Module, state: &State, found: &Found) -> bool
     }
 }
 
-/// Whether the words of all channels have the least word.
+/// What is left of channels once those are passed that come first and whose words are from one up to `end`.
+fn past_channels(channels: &[ChannelRow], word: i64, end: i64) -> &[ChannelRow]
+    ensures few { length result.now ≤ length channels.now }
+    ensures same { (test : ℤ → Bool) → ((k : ℤ) → word ≤ℤ k → k <ℤ end → test k ≡ true)
+        → list_all (λ (c : ChannelRow). test c.word) channels.now
+        ≡ list_all (λ (c : ChannelRow). test c.word) result.now }
+{
+    let mut rest = channels;
+    while let Some((channel, later)) = rest.split_first() {
+        let other = i64::from(channel.word);
+        if other < word || end <= other {
+            break;
+        }
+        rest = later;
+    }
+    rest
+}
+
+/// Whether the words of all channels have the least word. Those that follow each other are asked together.
 fn channels_are_least(state: &State, channels: &[ChannelRow]) -> bool
     ensures { let s = state_of state.now in
         result ≡ list_all (λ c. holds_constant (s.frame c.word) least_word) channels.now }
 {
-    channels.iter().all(|channel| holds_constant(state.fact_at(channel.word), i64::from(i32::MIN)))
+    let mut rest = channels;
+    while let Some((channel, later)) = rest.split_first() {
+        let word = i64::from(channel.word);
+        let end = state.constant_until(word, i64::from(i32::MAX) + 1, i64::from(i32::MIN));
+        if end <= word {
+            return false;
+        }
+        rest = past_channels(later, word, end);
+    }
+    true
 }
 
 /// Whether the words of all channels of a PAR row may be written, and have the least word.

@@ -7,7 +7,7 @@ ghost use Rattle.states.specs.Below.{is_whole, price};
 ghost use Rattle.states.specs.Rows.{LoopFits};
 ghost use Rattle.states.specs.Views.{state_of};
 ghost use Rattle.certificate.specs.Starting.{is_scheduling_word};
-ghost use Rattle.par_rules.specs.Comparisons.{words_pass, label_passes, keeps};
+ghost use Rattle.par_rules.specs.Comparisons.{words_pass, label_passes, keeps, branch_facts};
 ghost use Rattle.par_rules.specs.Sights.{facts_in, passes, IsOrdered};
 
 use crate::openings::holds_constant;
@@ -58,6 +58,23 @@ fn is_scheduling_word(workspace: i32, word: i64) -> bool
     word < workspace && workspace - 3 <= word
 }
 
+/// What is known of a word at the first byte of a branch that this state starts.
+fn fact_of_branch(
+    module: &Module,
+    state: &State,
+    context: u32,
+    workspace: i32,
+    word: i64,
+) -> WordFact
+    ensures value { result ≡ branch_facts «module».now context workspace (state_of state.now).frame word }
+    ensures fits { LoopFits result }
+{
+    if !module.may_read_word(context, word) || is_scheduling_word(workspace, word) {
+        return WordFact::Alone(Fact::Unknown);
+    }
+    WordFact::Alone(state.fact_of(word).plain())
+}
+
 impl Sight<'_, '_, '_> {
     ghost use Rattle.std.specs.Prelude.{◌≡◌};
     ghost use Rattle.states.specs.Rows.{LoopFits};
@@ -74,13 +91,7 @@ impl Sight<'_, '_, '_> {
                 state,
                 context,
                 workspace,
-            } => {
-                if module.may_read_word(context, word) && !is_scheduling_word(workspace, word) {
-                    WordFact::Alone(state.fact_of(word).plain())
-                } else {
-                    WordFact::Alone(Fact::Unknown)
-                }
-            }
+            } => fact_of_branch(module, state, context, workspace, word),
             Sight::InState { state } => state.fact_of(word),
         }
     }

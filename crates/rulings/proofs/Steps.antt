@@ -94,6 +94,12 @@ pub passed-on : (P : ℤ → Type 0) (o : Option ℤ) (r : Result ℤ Rule) → 
 passed-on P (Some x) r r_is h = rw r_is h
 passed-on P None r r_is h = rw r_is tt
 
+-- a word that is returned as one is returned as another that is the same
+pub passed-as : (w z : ℤ) (o : Option ℤ) (r : Result ℤ Rule) → r ≡ ok_or o rules.OwnWord → z ≡ w
+    → IfSome o (λ k. k ≡ z) → IfOk r (λ k. k ≡ w)
+passed-as w z (Some x) r r_is same h = rw r_is (h ∙ same)
+passed-as w z None r r_is same h = rw r_is tt
+
 -- a word that is asked for is handed on where it passes a test
 asked-by : (test : ℤ → Bool) (w z : ℤ) (o : Option ℤ) (r : Result ℤ Rule) → r ≡ ok_or o rules.OwnWord → z ≡ w
     → is_some o ≡ test z → Admits r (λ k. cond (test w) k (breaks rules.OwnWord))

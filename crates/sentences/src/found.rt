@@ -16,6 +16,7 @@ ghost use Rattle.sentences.specs.Found.{budget_found, found_by, found};
 ghost use Rattle.sentences.specs.Found.{channel_by, end_found, message_found, started_part, start_found, in_context, callee_found};
 ghost use Rattle.sentences.specs.Found.{call_target, lo_words, hi_words, bounds_text, bounds_part, place_found};
 ghost use Rattle.sentences.specs.Found.{workspace_words, branch_started, workspace_text, workspace_found};
+ghost use Rattle.module_format.specs.Contexts.{context_at};
 ghost use Rattle.sentences.specs.Found.{own_word_found, regions_found};
 
 use crate::begun::{branch_target, push_branch_part, push_procedure_begun};
@@ -540,7 +541,23 @@ fn push_bounds(text: &mut String, bounds: Option<Context>) -> Result<(), AllocEr
     }
 }
 
-/// Appends the word that is used, or where the workspace is or would be, and the frame.
+/// Appends the word that is used with this workspace, or where it is or would be, and the frame of a context.
+fn push_word_in_frame(
+    text: &mut String,
+    module: &Module,
+    spot: Spot,
+    depth: i32,
+    context: u32,
+) -> Result<(), AllocError>
+    ensures { OnOk result (string_bytes text.new ≡ string_bytes text.old
+        ++ (word_found spot.instruction depth spot.instr.operand ++ bounds_part (context_at «module».now context))) }
+{
+    push_word(text, spot.instruction, depth, spot.instr.operand)?;
+    push_bounds(text, module.context(context))?;
+    Ok(())
+}
+
+/// The same of the workspace and the context of a state.
 #[tactic(auto, unfolding(crate::specs::Found::place_found))]
 fn push_place(
     text: &mut String,
@@ -551,9 +568,7 @@ fn push_place(
     ensures { OnOk result (string_bytes text.new ≡ string_bytes text.old
         ++ place_found «module».now spot.instruction spot.instr.operand (state_of state.now)) }
 {
-    push_word(text, spot.instruction, state.depth, spot.instr.operand)?;
-    push_bounds(text, module.context(state.context))?;
-    Ok(())
+    push_word_in_frame(text, module, spot, state.depth, state.context)
 }
 
 /// What is said of the workspace of a branch.

@@ -52,7 +52,7 @@ first-test word (suc n) =
     let no : eqb (suc n) 0 ≡ false = grind (arith, nat_tests) in
     is_word-below word (word +ℤ pos (suc n)) (omega (arith, ints)) ∙ sym no
 
-words_say-each : (facts : Facts) (entry : Entry) (span : ℕ)
+pub words_say-each : (facts : Facts) (entry : Entry) (span : ℕ)
     → ((n : ℕ) → n < span → says (facts (entry.word +ℤ pos n)) (said_of entry.fact (eqb n 0)) ≡ true)
     → words_say facts entry span ≡ true
 words_say-each facts entry zero each = refl

@@ -124,7 +124,7 @@ loop-by said facts entry (Loop base count weight) wanted first second paid is lo
 loop-by said facts entry fact wanted first second paid is loop span first_is second_is wanted_due = absurd (cc)
 
 -- what the fact of a loop is
-loop-is : (fact : Fact) (loop : CountedLoop) → loop_of fact ≡ Some loop
+pub loop-is : (fact : Fact) (loop : CountedLoop) → loop_of fact ≡ Some loop
     → fact ≡ Loop loop.base loop.count loop.weight
 loop-is (Loop base count weight) loop h =
     let same : ◌≡◌ {A = CountedLoop} (record { base = base; count = count; weight = weight }) loop = cc in

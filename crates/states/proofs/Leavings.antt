@@ -454,7 +454,7 @@ one-twice (Loop base count weight) = refl
 one-twice ReturnAddress = refl
 
 -- of words of each of which the same is known
-together-alike : (facts : Facts) (first : ℤ) (fact : Fact) (n : ℕ)
+pub together-alike : (facts : Facts) (first : ℤ) (fact : Fact) (n : ℕ)
     → ((j : ℕ) → j < suc n → facts (first +ℤ pos j) ≡ Alone fact)
     → together facts first (suc n) ≡ with_one (Alone fact) of_none
 together-alike facts first fact zero each = ap (λ (f : WordFact). with_one f of_none) (each 0 (omega arith))
@@ -463,7 +463,7 @@ together-alike facts first fact (suc n) each =
     ∙ (ap (with_one (Alone fact)) (together-alike facts first fact n (λ j less. each j (omega arith))) ∙ one-twice fact)
 
 -- what is known of words together, and of the same words once each was widened
-data Widened (lo hi : ℤ) (t u : Together) : Type 0 where
+pub data Widened (lo hi : ℤ) (t u : Together) : Type 0 where
   no_number : t.lo ≡ greatest_word → t.hi ≡ least_word → u.lo ≡ greatest_word → u.hi ≡ least_word
       → u.are_numbers ≡ t.are_numbers → u.are_alone ≡ true → Widened lo hi t u
   a_number : u.lo ≡ int_min t.lo lo → u.hi ≡ int_max t.hi hi → u.are_numbers ≡ t.are_numbers → u.are_alone ≡ true
@@ -489,7 +489,7 @@ widened-more lo hi (CodeAddress offset) t u alone w = widened-other lo hi t u al
 widened-more lo hi (Loop base count weight) t u alone w = widened-other lo hi t u alone w
 widened-more lo hi ReturnAddress t u alone w = widened-other lo hi t u alone w
 
-together-widened : (lo hi : ℤ) (facts others : Facts) (first : ℤ) (n : ℕ)
+pub together-widened : (lo hi : ℤ) (facts others : Facts) (first : ℤ) (n : ℕ)
     → ((j : ℕ) → j < n → others (first +ℤ pos j) ≡ Alone (widened lo hi (by_itself (facts (first +ℤ pos j)))))
     → Widened lo hi (together facts first n) (together others first n)
 together-widened lo hi facts others first zero each = no_number refl refl refl refl refl refl
@@ -509,7 +509,7 @@ span-word facts first n j leaving less =
     (in-span first n (first +ℤ pos j) (omega (arith, ints)) (omega (arith, ints)))
 
 -- the bounds show that there is a number
-sum-widened : (lo hi : ℤ) (t u sum : Together) → Widened lo hi t u
+pub sum-widened : (lo hi : ℤ) (t u sum : Together) → Widened lo hi t u
     → sum_left (Some t) (Widen lo hi) ≡ Some sum → sum ≡ u
 sum-widened lo hi t u sum (no_number tl th ul uh numbers lone) is =
     let unbounded = and_from _ _ (is_word-same t.lo greatest_word tl) (is_word-same t.hi least_word th) in

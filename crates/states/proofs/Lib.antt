@@ -1,4 +1,5 @@
 pub mod Lookups
+pub mod Touched
 pub mod LabelRows
 pub mod Loops
 pub mod Prices
@@ -8,6 +9,7 @@ pub mod FrameFacts
 pub mod SpanFacts
 pub mod BlockSums
 pub mod Leavings
+pub mod SpanSums
 pub mod Widenings
 pub mod Comparisons
 pub mod Entering
@@ -17,7 +19,11 @@ pub mod FrameBounds
 pub mod IntervalWords
 pub mod CutEntries
 pub mod LoopPairs
+pub mod Decaying
+pub mod Dues
 pub mod Remembering
 pub mod Hulls
 pub mod Claimed
 pub mod SaidWords
+pub mod KnownRuns
+pub mod NextWords

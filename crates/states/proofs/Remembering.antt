@@ -1,16 +1,17 @@
 -- What is remembered of comparisons with labels, once words are changed or asked again.
 use Rattle.std.proofs.Common.{◌≡◌, ◌≢◌, ◌⊎◌, ℕ, suc, ◌+◌, ◌-◌, ◌*◌, ◌/◌, ◌%◌, ◌<◌, ◌≤◌, ℤ, pos, negsuc, ◌+ℤ◌, ◌-ℤ◌}
 use Rattle.std.proofs.Common.{◌≤ℤ◌, ◌<ℤ◌}
-use Rattle.std.proofs.Common.{Bool, true, false, ◌&&◌, List, [], ◌∷◌, length, Option, Some, None, refl, sym, ap, ◌∙◌}
+use Rattle.std.proofs.Common.{Bool, true, false, ◌&&◌, ◌||◌, List, length, Option, Some, None, refl, sym, ap}
+use Rattle.std.proofs.Common.{◌∙◌}
+use std.Path.{fun_ext}
 use Rattle.std.proofs.Common.{subst, arith, inl, inr, cond}
-use Rattle.std.specs.Prelude.{nat_le, nat_lt, is_none, sum_by, if◌then◌else◌, Result, Ok, Err, vec_len}
+use Rattle.std.specs.Prelude.{nat_lt, sum_by, if◌then◌else◌, Result, Ok, Err}
 use Rattle.std.specs.List.{list_all}
-use Rattle.std.proofs.lemmas.Bool.{cases_lt, cases_eq, and_parts, and_from, leb-true, le-leb}
+use Rattle.std.proofs.lemmas.Bool.{cases_lt, cases_eq, and_parts}
 use Rattle.std.proofs.lemmas.Bool.Decides.{nat_tests}
 use Rattle.std.proofs.lemmas.Int.{ints}
 use Rattle.std.proofs.lemmas.List.{get_or_past, get_or-set_same, get_or-set_other}
 use Rattle.std.proofs.Math.ListN.{get_or, set}
-use Rattle.std.proofs.lemmas.List.Sums.{sum_by-cons}
 use Rattle.std.proofs.lemmas.Nat.{div-add-mod'}
 use Rattle.std.proofs.Math.Nat.{mod-lt, mul-le-mul_right}
 use Rattle.module_format.specs.Rows.{Fact, Entry}
@@ -29,124 +30,36 @@ use Rattle.states.specs.declared.rule.Rule.{Rule}
 use Rattle.states.specs.declared.rule.Rule.TheVariants as rules
 use Rattle.states.specs.State.{State, Facts, by_itself, is_alone, said_of, entry_fact}
 use Rattle.states.specs.Spans.{left_of}
-use Rattle.states.specs.Below.{View, implies, says, are_alike, is_whole, holds_constant, price, entries_hold, agrees}
+use Rattle.states.specs.Below.{View, implies, says, is_whole, entries_hold, agrees}
 use Rattle.states.specs.Below.{cost}
 use Rattle.states.specs.Below.{view, below, below_at}
 use Rattle.states.specs.Blocks.{block_words, first_of, is_widening, HaveRoom}
 use Rattle.states.specs.Implied.{BlockImplied, WantsOnlyWithin}
-use Rattle.states.specs.Comparing.{BlockSaysAll, loop_of, stands}
+use Rattle.states.specs.Comparing.{SaysAll, BlockSaysAll, stands}
 use Rattle.states.specs.Frames.{with_alone, with_span}
-use Rattle.states.specs.Remembered.{never, compared_at, time_of, index_time, word_time, HasTimes, loop_stays}
-use Rattle.states.specs.Remembered.{loops_stay}
-use Rattle.states.specs.Remembered.{wants_no_loop, IsPaid, IsRecalled, ChangedSay, allows, index_written}
+use Rattle.states.specs.Remembered.{compared_at, time_of, index_time, word_time, HasTimes}
+use Rattle.states.specs.Remembered.{are_loops_of_two, whole_by, due_by, AreDueSince}
+use Rattle.states.specs.Remembered.{wants_no_loop, IsPaid, ChangedSay, allows, index_written}
 use Rattle.states.specs.Remembered.{word_written, no_changes, changes_of, since_at, since_in, leaving_since}
 use Rattle.states.specs.Remembered.{leaving_of_index}
 use Rattle.states.specs.Remembered.{range_in, became_until}
-use Rattle.states.specs.Remembering.{IsRemembered, AreFixed, AreRemembered, IsChanged, IsPlaced, IsLeftSo, IsRenewed}
+use Rattle.states.specs.Remembering.{IsRemembered, AreFixed, AreAged, AreRemembered, IsChanged, IsPlaced, IsLeftSo}
+use Rattle.states.specs.Remembering.{IsRenewed, IsPut, IsCopy, was_changed, was_alone}
+use Rattle.states.specs.Rows.{AreApart}
 use Rattle.states.proofs.BlockSums.{number-of}
 use Rattle.states.proofs.Comparisons.{entries_hold-says, says-unknown}
+use Rattle.states.proofs.Decaying.{alone-same, changed-same, aged-same, none-aged, AreChangedAlike, all-by}
+use Rattle.states.proofs.Dues.{none-whole, none-due, none-pairs, paid-by, paid-now}
 use Rattle.states.proofs.FrameFacts.{word-cases}
 use Rattle.states.proofs.Loops.{some-words}
 use Rattle.states.proofs.Leavings.{inside, outside, in-block}
 use Rattle.states.proofs.Widenings.{widened-in}
 
--- ---- loops whose words are what they were
-
--- the facts of an entry's two words, if it is of a loop, are what they were where they were not changed
-whole-by : (fact : Fact) (f g f' g' : WordFact) (first second time : ℕ)
-    → (first ≤ time → f' ≡ f) → (second ≤ time → g' ≡ g)
-    → (elim fact as (λ _. Bool) [ Loop base count weight ↦ nat_le first time && nat_le second time | _ ↦ true ]) ≡ true
-    → (elim fact as (λ _. Bool) [ Loop base count weight ↦ are_alike (is_alone f') (is_alone g') | _ ↦ true ])
-    ≡ (elim fact as (λ _. Bool) [ Loop base count weight ↦ are_alike (is_alone f) (is_alone g) | _ ↦ true ])
-whole-by (Loop base count weight) f g f' g' first second time f_is g_is stays =
-    let both = and_parts _ _ stays in
-    rw (f_is (leb-true first time both.0), g_is (leb-true second time both.1)) refl
-whole-by Unknown f g f' g' first second time f_is g_is stays = refl
-whole-by (Number lo hi) f g f' g' first second time f_is g_is stays = refl
-whole-by (Pointer region lo hi step) f g f' g' first second time f_is g_is stays = refl
-whole-by (CodeAddress offset) f g f' g' first second time f_is g_is stays = refl
-whole-by ReturnAddress f g f' g' first second time f_is g_is stays = refl
-
-price-by : (fact : Fact) (f g f' g' : WordFact) (first second time : ℕ)
-    → (first ≤ time → f' ≡ f) → (second ≤ time → g' ≡ g)
-    → (elim fact as (λ _. Bool) [ Loop base count weight ↦ nat_le first time && nat_le second time | _ ↦ true ]) ≡ true
-    → (elim fact as (λ _. ℕ) [
-      | Loop base count weight ↦
-          if holds_constant f' base && holds_constant g' (pos count) then weight * (count - 1) else 0
-      | _ ↦ 0
-    ])
-    ≡ (elim fact as (λ _. ℕ) [
-      | Loop base count weight ↦
-          if holds_constant f base && holds_constant g (pos count) then weight * (count - 1) else 0
-      | _ ↦ 0
-    ])
-price-by (Loop base count weight) f g f' g' first second time f_is g_is stays =
-    let both = and_parts _ _ stays in
-    rw (f_is (leb-true first time both.0), g_is (leb-true second time both.1)) refl
-price-by Unknown f g f' g' first second time f_is g_is stays = refl
-price-by (Number lo hi) f g f' g' first second time f_is g_is stays = refl
-price-by (Pointer region lo hi step) f g f' g' first second time f_is g_is stays = refl
-price-by (CodeAddress offset) f g f' g' first second time f_is g_is stays = refl
-price-by ReturnAddress f g f' g' first second time f_is g_is stays = refl
+-- ---- words that were not changed since
 
 -- what was not changed since a time is what it was, and was not changed before
 abbrev pub AreSame : (ℤ → ℕ) → (ℤ → ℕ) → Facts → Facts → ℕ → Type 0
 AreSame times later facts others time = (k : ℤ) → later k ≤ time → (others k ≡ facts k) × (times k ≤ time)
-
-loop-stays : (fact : Fact) (first second first' second' time : ℕ)
-    → (first' ≤ time → first ≤ time) → (second' ≤ time → second ≤ time)
-    → (elim fact as (λ _. Bool) [ Loop base count weight ↦ nat_le first' time && nat_le second' time | _ ↦ true ])
-    ≡ true
-    → (elim fact as (λ _. Bool) [ Loop base count weight ↦ nat_le first time && nat_le second time | _ ↦ true ]) ≡ true
-loop-stays (Loop base count weight) first second first' second' time f g stays =
-    let both = and_parts _ _ stays in
-    and_from _ _ (le-leb first time (f (leb-true first' time both.0)))
-    (le-leb second time (g (leb-true second' time both.1)))
-loop-stays Unknown first second first' second' time f g stays = refl
-loop-stays (Number lo hi) first second first' second' time f g stays = refl
-loop-stays (Pointer region lo hi step) first second first' second' time f g stays = refl
-loop-stays (CodeAddress offset) first second first' second' time f g stays = refl
-loop-stays ReturnAddress first second first' second' time f g stays = refl
-
-stayed : (times later : ℤ → ℕ) (facts others : Facts) (time : ℕ) (entries : List Entry)
-    → AreSame times later facts others time → loops_stay later time entries ≡ true
-    → loops_stay times time entries ≡ true
-stayed times later facts others time [] same stays = refl
-stayed times later facts others time (entry ∷ entries) same stays =
-    let both : (loop_stays later time entry ≡ true) × (loops_stay later time entries ≡ true) = and_parts _ _ stays in
-    and_from _ _
-    (loop-stays entry.fact (times entry.word) (times (entry.word +ℤ pos 1)) (later entry.word)
-    (later (entry.word +ℤ pos 1)) time (λ l. (same entry.word l).1) (λ l. (same (entry.word +ℤ pos 1) l).1) both.0)
-    (stayed times later facts others time entries same both.1)
-
-whole-same : (times later : ℤ → ℕ) (facts others : Facts) (time : ℕ) (entries : List Entry)
-    → AreSame times later facts others time → loops_stay later time entries ≡ true
-    → list_all (is_whole others) entries ≡ list_all (is_whole facts) entries
-whole-same times later facts others time [] same stays = refl
-whole-same times later facts others time (entry ∷ entries) same stays =
-    let both : (loop_stays later time entry ≡ true) × (loops_stay later time entries ≡ true) = and_parts _ _ stays in
-    let here : is_whole others entry ≡ is_whole facts entry =
-    whole-by entry.fact (facts entry.word) (facts (entry.word +ℤ pos 1)) (others entry.word)
-    (others (entry.word +ℤ pos 1)) (later entry.word) (later (entry.word +ℤ pos 1)) time
-    (λ l. (same entry.word l).0) (λ l. (same (entry.word +ℤ pos 1) l).0) both.0 in
-    let rest = whole-same times later facts others time entries same both.1 in
-    ap (λ (b : Bool). b && list_all (is_whole others) entries) here
-    ∙ ap (λ (b : Bool). is_whole facts entry && b) rest
-
-due-same : (times later : ℤ → ℕ) (facts others : Facts) (time : ℕ) (entries : List Entry)
-    → AreSame times later facts others time → loops_stay later time entries ≡ true
-    → sum_by (price others) entries ≡ sum_by (price facts) entries
-due-same times later facts others time [] same stays = refl
-due-same times later facts others time (entry ∷ entries) same stays =
-    let both : (loop_stays later time entry ≡ true) × (loops_stay later time entries ≡ true) = and_parts _ _ stays in
-    let here : price others entry ≡ price facts entry =
-    price-by entry.fact (facts entry.word) (facts (entry.word +ℤ pos 1)) (others entry.word)
-    (others (entry.word +ℤ pos 1)) (later entry.word) (later (entry.word +ℤ pos 1)) time
-    (λ l. (same entry.word l).0) (λ l. (same (entry.word +ℤ pos 1) l).0) both.0 in
-    let rest = due-same times later facts others time entries same both.1 in
-    let old = sum_by-cons (price facts) entry entries in
-    let new = sum_by-cons (price others) entry entries in
-    omega (arith, old, new, here, rest)
 
 -- where what is wanted of a word that was not written since a time is allowed, it was before, and is known if it was
 abbrev pub StayHeld : ℤ → Remembered → Remembered → Facts → Facts → ℕ → Type 0
@@ -158,29 +71,26 @@ StayHeld lo old new facts others time =
     × (says (facts k) wanted ≡ true → says (others k) wanted ≡ true)
 
 -- a comparison is remembered where words are changed later
-remembered-still : (lo : ℤ) (old new : Remembered) (facts others : Facts) (entries : List Entry) (c : Compared)
+remembered-still : (said : Facts) (lo : ℤ) (old new : Remembered) (facts others : Facts) (entries : List Entry)
+    (c : Compared)
     → AreSame (word_time lo old.times.items) (word_time lo new.times.items) facts others c.time
-    → StayHeld lo old new facts others c.time → IsRemembered lo old facts entries c
-    → IsRemembered lo new others entries c
-remembered-still lo old new facts others entries c same held before = record {
-  knows = λ k l.
-      let at = same k l in
-      ap (λ (f : WordFact). says f (entry_fact entries k)) at.0 ∙ before.knows k at.1;
-  held = λ k l m allowing.
-      let at = held k (entry_fact entries k) l m allowing in
-      at.3 (before.held k at.0 at.1 at.2);
-  whole = λ stays. whole-same times later facts others c.time entries same stays
-      ∙ before.whole (stayed times later facts others c.time entries same stays);
-  due = λ stays. due-same times later facts others c.time entries same stays
-      ∙ before.due (stayed times later facts others c.time entries same stays);
-  plain = before.plain;
-}
-  where
-    times : ℤ → ℕ
-    times = word_time lo old.times.items
-
-    later : ℤ → ℕ
-    later = word_time lo new.times.items
+    → StayHeld lo old new facts others c.time
+    → ((k : ℤ) → was_changed lo new c.time k ≡ was_changed lo old c.time k)
+    → IsRemembered said lo old facts entries c → IsRemembered said lo new others entries c
+remembered-still said lo old new facts others entries c same held alike before =
+    let alone = alone-same said lo old new c.time alike in
+    record {
+      knows = λ k l.
+          let at = same k l in
+          ap (λ (f : WordFact). says f (entry_fact entries k)) at.0 ∙ before.knows k at.1;
+      held = λ k l m allowing.
+          let at = held k (entry_fact entries k) l m allowing in
+          at.3 (before.held k at.0 at.1 at.2);
+      pairs = before.pairs;
+      whole = ap (λ (a : ℤ → Bool). list_all (whole_by a) entries) alone ∙ before.whole;
+      due = ap (λ (a : ℤ → Bool). sum_by (due_by a) entries) alone ∙ before.due;
+      plain = before.plain;
+    }
 
 -- ---- the times of blocks
 
@@ -296,40 +206,18 @@ unfixed facts lo r now = λ k n at late early.
 
 -- none is of the label that the state goes on from, and what that label says is known
 pub remembered-none : (said facts : Facts) (lo : ℤ) (r : Remembered) → facts ≡ said
-    → ((at : ℕ) → (compared_at r.compared.items at).time < r.began) → r.time ≤ r.began → AreRemembered said facts lo r
+    → ((at : ℕ) → (compared_at r.compared.items at).time < r.began) → r.time ≤ r.began
+    → ((n : ℕ) → time_of r.firsts.words.items n < r.began) → ((n : ℕ) → time_of r.firsts.blocks.items n < r.began)
+    → AreRemembered said facts lo r
 unfolding AreRemembered
-remembered-none said facts lo r is none now = (
+remembered-none said facts lo r is none now firsts lefts = (
   λ at t found later.
       let before = none at in
       absurd (omega (arith, before, later)),
   λ k some early. ap (λ (f : Facts). f k) is,
   unfixed facts lo r now,
+  none-aged said facts lo r is firsts lefts,
 )
-
--- nothing is remembered, and all blocks were changed since
-pub remembered-never : (said facts : Facts) (lo : ℤ) (r : Remembered)
-    → ((n : ℕ) → n < vec_len r.times → r.began ≤ time_of r.times.items n)
-    → ((at : ℕ) → compared_at r.compared.items at ≡ never) → r.time ≤ r.began → AreRemembered said facts lo r
-unfolding AreRemembered
-remembered-never said facts lo r late none now = (
-  λ at t found later.
-      let time = ap (λ (c : Compared). c.time) (none at) in
-      let begun = r.begun in
-      absurd (omega (arith, time, begun, later)),
-  λ k some early. on k (k -ℤ lo) some early,
-  unfixed facts lo r now,
-)
-  where
-    on : (k z : ℤ) → 1 ≤ index_time r.times.items z → index_time r.times.items z < r.began → facts k ≡ said k
-    on k (pos n) some early = elim (cases_lt (n / block_words) (length r.times.items)) [
-      | inl low ↦
-          let after = late (n / block_words) (omega (arith, low)) in
-          absurd (omega (arith, after, early))
-      | inr high ↦
-          let zero_is = get_or_past r.times.items (n / block_words) 0 high in
-          absurd (omega (arith, zero_is, some))
-    ]
-    on k (negsuc n) some early = absurd (omega (arith, some))
 
 -- the words outside a block are what they were
 pub record AreOutside (lo : ℤ) (number : ℕ) (facts others : Facts) : Type 0 where
@@ -346,9 +234,10 @@ pub remembered-changed : (said facts others : Facts) (lo : ℤ) (number : ℕ) (
     → IsChanged number old new → AreOutside lo number facts others
     → ((time : ℕ) → time < time_of new.times.items number → StayHeld lo old new facts others time)
     → (AreFixed facts lo old → AreFixed others lo new)
+    → AreChangedAlike lo old new → (AreAged said facts lo old → AreAged said others lo new)
     → AreRemembered said facts lo old → AreRemembered said others lo new
 unfolding AreRemembered
-remembered-changed said facts others lo number old new change far held fixed remembered = (
+remembered-changed said facts others lo number old new change far held fixed alike aged remembered = (
   λ at t found later.
       elim (change.kept.each at) [
         | inl same ↦
@@ -357,10 +246,12 @@ remembered-changed said facts others lo number old new change far held fixed rem
             let after = change.later at in
             let before = remembered.0 at t (ap (λ (m : Contents). label_at m at) (sym change.kept.same) ∙ found)
             (omega (arith, time, began, later)) in
-            subst (λ (c : Compared). IsRemembered lo new others t.entries c) (sym same)
-            (remembered-still lo old new facts others t.entries (compared_at old.compared.items at)
+            let now = new.changed number in
+            subst (λ (c : Compared). IsRemembered said lo new others t.entries c) (sym same)
+            (remembered-still said lo old new facts others t.entries (compared_at old.compared.items at)
             (λ k l. on (compared_at old.compared.items at).time k (k -ℤ lo) refl (omega (arith, time, after)) l)
-            (held (compared_at old.compared.items at).time (omega (arith, time, after))) before)
+            (held (compared_at old.compared.items at).time (omega (arith, time, after)))
+            (alike (compared_at old.compared.items at).time (omega (arith, time, after, now))) before)
         | inr none ↦
             let time = ap (λ (c : Compared). c.time) none in
             let begun = new.begun in
@@ -370,6 +261,7 @@ remembered-changed said facts others lo number old new change far held fixed rem
       let before = fresh k (k -ℤ lo) refl some early in
       before.2 ∙ remembered.1 k before.0 before.1,
   fixed remembered.2,
+  aged remembered.3,
 )
   where
     on : (time : ℕ) (k z : ℤ) → k -ℤ lo ≡ z → time < time_of new.times.items number
@@ -678,18 +570,22 @@ left-held lo number leaving facts others old new left is time later =
     )
 
 -- how a block was left is kept anew
-pub renewed-known : (lo : ℤ) (number : ℕ) (old new : Remembered) (facts : Facts) (entries : List Entry) (c : Compared)
-    → IsRenewed number old new → IsRemembered lo old facts entries c → IsRemembered lo new facts entries c
-renewed-known lo number old new facts entries c renewed before = record {
+pub renewed-known : (said : Facts) (lo : ℤ) (number : ℕ) (old new : Remembered) (facts : Facts) (entries : List Entry)
+    (c : Compared)
+    → IsRenewed number old new → IsRemembered said lo old facts entries c → IsRemembered said lo new facts entries c
+renewed-known said lo number old new facts entries c renewed before = record {
   knows = λ k l. before.knows k (subst (λ (ts : List ℕ). word_time lo ts k ≤ c.time) renewed.times l);
   held = λ k l m allowing. on k (k -ℤ lo) refl l m allowing;
-  whole = λ stays. before.whole (subst (λ (ts : List ℕ). loops_stay (word_time lo ts) c.time entries ≡ true)
-      renewed.times stays);
-  due = λ stays. before.due (subst (λ (ts : List ℕ). loops_stay (word_time lo ts) c.time entries ≡ true)
-      renewed.times stays);
+  pairs = before.pairs;
+  whole = ap (λ (a : ℤ → Bool). list_all (whole_by a) entries) alone ∙ before.whole;
+  due = ap (λ (a : ℤ → Bool). sum_by (due_by a) entries) alone ∙ before.due;
   plain = before.plain;
 }
   where
+    alone : was_alone said lo new c.time ≡ was_alone said lo old c.time
+    alone = alone-same said lo old new c.time
+        (changed-same lo old new c.time renewed.began renewed.firsts renewed.lefts)
+
     on : (k z : ℤ) → k -ℤ lo ≡ z → index_written new.words.items z ≤ c.time → since_at new.by_block.items z ≤ c.time
         → allows (leaving_of_index new.began new.by_block.items z) (entry_fact entries k) ≡ true
         → says (facts k) (entry_fact entries k) ≡ true
@@ -725,8 +621,8 @@ remembered-renewed said facts lo number old new renewed before = (
       let same = ap (λ (cs : List Compared). compared_at cs at) renewed.compared in
       let time = ap (λ (c : Compared). c.time) same in
       let began = renewed.began in
-      subst (λ (c : Compared). IsRemembered lo new facts t.entries c) (sym same)
-      (renewed-known lo number old new facts t.entries (compared_at old.compared.items at) renewed
+      subst (λ (c : Compared). IsRemembered said lo new facts t.entries c) (sym same)
+      (renewed-known said lo number old new facts t.entries (compared_at old.compared.items at) renewed
       (before.0 at t (ap (λ (m : Contents). label_at m at) (sym renewed.same) ∙ found)
       (omega (arith, time, began, later)))),
   λ k some early.
@@ -735,79 +631,108 @@ remembered-renewed said facts lo number old new renewed before = (
       before.1 k (omega (arith, time, some)) (omega (arith, time, began, early)),
   λ k n here. fixed-kept lo old new facts facts k n here renewed.began
       (ap (λ (ws : List ℕ). time_of ws n) renewed.words) (renewed.became (n / block_words)) refl before.2,
+  aged-same said facts facts lo old new refl renewed.time renewed.began renewed.firsts renewed.lefts before.3,
 )
 
 -- a comparison more
 pub remembered-put : (said facts : Facts) (lo : ℤ) (old new : Remembered) (t : Label) (offset paid : ℕ)
-    (is_plain : Bool) → new.«module».now ≡ old.«module».now → new.times.items ≡ old.times.items
-    → new.words.items ≡ old.words.items → new.by_block.items ≡ old.by_block.items → new.began ≡ old.began
-    → ((at : ℕ) → (compared_at new.compared.items at ≡ compared_at old.compared.items at)
-    ⊎ ((at ≡ offset) × (compared_at new.compared.items at
-    ≡ record { time = new.time; paid = paid; is_plain = is_plain })))
-    → label_at old.«module».now offset ≡ Some t → IsPaid facts t.entries paid
-    → (is_plain ≡ true → wants_no_loop t.entries ≡ true)
+    (is_plain : Bool) → IsPut offset paid is_plain old new
+    → label_at old.«module».now offset ≡ Some t → AreApart t.entries → IsPaid facts t.entries paid
+    → (is_plain ≡ true → wants_no_loop t.entries ≡ true) → are_loops_of_two t.entries ≡ true
     → AreRemembered said facts lo old → AreRemembered said facts lo new
 unfolding AreRemembered
-remembered-put said facts lo old new t offset paid is_plain same times_is words_is blocks_is began each label due plain
-    remembered = (
-      λ at other found later. elim (each at) [
-        | inl kept ↦
-            let time = ap (λ (c : Compared). c.time) kept in
-            let before = remembered.0 at other (ap (λ (m : Contents). label_at m at) (sym same) ∙ found)
-            (omega (arith, time, began, later)) in
-            subst (λ (c : Compared). IsRemembered lo new facts other.entries c) (sym kept)
-            (still other.entries (compared_at old.compared.items at) before)
-        | inr put ↦
-            let one : Some other ≡ Some t =
-            sym found ∙ (ap (λ (m : Contents). label_at m at) same
-            ∙ (ap (label_at old.«module».now) put.0 ∙ label)) in
-            let label_is : other ≡ t = cc in
-            subst (λ (c : Compared). IsRemembered lo new facts other.entries c) (sym put.1)
-            (subst (λ (l : Label). IsRemembered lo new facts l.entries
-            (record { time = new.time; paid = paid; is_plain = is_plain })) (sym label_is)
-            (record {
-              knows = λ k l. due.knows k;
-              held = λ k l m allowing. due.knows k;
-              whole = λ s. due.whole;
-              due = λ s. due.due;
-              plain = plain;
-            }))
-      ],
-      λ k some early.
-          let time = ap (λ (ts : List ℕ). word_time lo ts k) times_is in
-          remembered.1 k (omega (arith, time, some)) (omega (arith, time, began, early)),
-      λ k n here. fixed-kept lo old new facts facts k n here began
-          (ap (λ (ws : List ℕ). time_of ws n) words_is)
-          (ap (λ (bs : List Changes). (changes_of bs (n / block_words)).became) blocks_is) refl remembered.2,
-    )
+remembered-put said facts lo old new t offset paid is_plain put label apart due plain pairs remembered = (
+  λ at other found later. elim (put.each at) [
+    | inl kept ↦
+        let time = ap (λ (c : Compared). c.time) kept in
+        let began = put.began in
+        let before = remembered.0 at other (ap (λ (m : Contents). label_at m at) (sym put.same) ∙ found)
+        (omega (arith, time, began, later)) in
+        subst (λ (c : Compared). IsRemembered said lo new facts other.entries c) (sym kept)
+        (still other.entries (compared_at old.compared.items at) before)
+    | inr now ↦
+        let one : Some other ≡ Some t =
+        sym found ∙ (ap (λ (m : Contents). label_at m at) put.same
+        ∙ (ap (label_at old.«module».now) now.0 ∙ label)) in
+        let label_is : other ≡ t = cc in
+        subst (λ (c : Compared). IsRemembered said lo new facts other.entries c) (sym now.1)
+        (subst (λ (l : Label). IsRemembered said lo new facts l.entries
+        (record { time = new.time; paid = paid; is_plain = is_plain })) (sym label_is) first)
+  ],
+  λ k some early.
+      let time = ap (λ (ts : List ℕ). word_time lo ts k) put.times in
+      let began = put.began in
+      remembered.1 k (omega (arith, time, some)) (omega (arith, time, began, early)),
+  λ k n here. fixed-kept lo old new facts facts k n here put.began
+      (ap (λ (ws : List ℕ). time_of ws n) put.words)
+      (ap (λ (bs : List Changes). (changes_of bs (n / block_words)).became) put.blocks) refl remembered.2,
+  aged,
+)
   where
-    still : (entries : List Entry) (c : Compared) → IsRemembered lo old facts entries c
-        → IsRemembered lo new facts entries c
-    still entries c before = record {
-      knows = λ k l. before.knows k (subst (λ (ts : List ℕ). word_time lo ts k ≤ c.time) times_is l);
-      held = λ k l m allowing. before.held k
-          (subst (λ (ws : List ℕ). word_written lo ws k ≤ c.time) words_is l)
-          (subst (λ (bs : List Changes). since_in lo bs k ≤ c.time) blocks_is m)
-          (subst (λ (b : ℕ). allows (range_in b lo old.by_block.items k) (entry_fact entries k) ≡ true) began
-          (subst (λ (bs : List Changes). allows (range_in new.began lo bs k) (entry_fact entries k) ≡ true)
-          blocks_is allowing));
-      whole = λ stays. before.whole (subst (λ (ts : List ℕ). loops_stay (word_time lo ts) c.time entries ≡ true)
-          times_is stays);
-      due = λ stays. before.due (subst (λ (ts : List ℕ). loops_stay (word_time lo ts) c.time entries ≡ true)
-          times_is stays);
-      plain = before.plain;
-    }
+    aged : AreAged said facts lo new
+    aged = aged-same said facts facts lo old new refl put.time put.began put.firsts put.lefts remembered.3
+
+    first : IsRemembered said lo new facts t.entries (record { time = new.time; paid = paid; is_plain = is_plain })
+    first =
+        let both = paid-by facts (was_alone said lo new new.time) t.entries paid apart pairs aged due in
+        record {
+          knows = λ k l. due.knows k;
+          held = λ k l m allowing. due.knows k;
+          pairs = pairs;
+          whole = both.0;
+          due = both.1;
+          plain = plain;
+        }
+
+    still : (entries : List Entry) (c : Compared) → IsRemembered said lo old facts entries c
+        → IsRemembered said lo new facts entries c
+    still entries c before =
+        let alone = alone-same said lo old new c.time
+        (changed-same lo old new c.time put.began put.firsts put.lefts) in
+        record {
+          knows = λ k l. before.knows k (subst (λ (ts : List ℕ). word_time lo ts k ≤ c.time) put.times l);
+          held = λ k l m allowing. before.held k
+              (subst (λ (ws : List ℕ). word_written lo ws k ≤ c.time) put.words l)
+              (subst (λ (bs : List Changes). since_in lo bs k ≤ c.time) put.blocks m)
+              (subst (λ (b : ℕ). allows (range_in b lo old.by_block.items k) (entry_fact entries k) ≡ true) put.began
+              (subst (λ (bs : List Changes). allows (range_in new.began lo bs k) (entry_fact entries k) ≡ true)
+              put.blocks allowing));
+          pairs = before.pairs;
+          whole = ap (λ (a : ℤ → Bool). list_all (whole_by a) entries) alone ∙ before.whole;
+          due = ap (λ (a : ℤ → Bool). sum_by (due_by a) entries) alone ∙ before.due;
+          plain = before.plain;
+        }
+
+-- the same again, with no comparison
+pub remembered-copied : (said facts others : Facts) (lo : ℤ) (old new : Remembered) → IsCopy old new → others ≡ facts
+    → AreRemembered said facts lo old → AreRemembered said others lo new
+unfolding AreRemembered
+remembered-copied said facts others lo old new copied is remembered = (
+  λ at t found later.
+      let time = ap (λ (c : Compared). c.time) (copied.none at) in
+      let begun = new.begun in
+      absurd (omega (arith, time, begun, later)),
+  λ k some early.
+      let time = ap (λ (ts : List ℕ). word_time lo ts k) copied.times in
+      let began = copied.began in
+      ap (λ (f : Facts). f k) is ∙ remembered.1 k (omega (arith, time, some)) (omega (arith, time, began, early)),
+  λ k n here. fixed-kept lo old new facts others k n here copied.began
+      (ap (λ (ws : List ℕ). time_of ws n) copied.words)
+      (ap (λ (bs : List Changes). (changes_of bs (n / block_words)).became) copied.blocks)
+      (ap (λ (f : Facts). f k) is) remembered.2,
+  aged-same said facts others lo old new is copied.time copied.began copied.firsts copied.lefts remembered.3,
+)
 
 -- ---- a comparison that is asked again
 
 -- the comparison with a label that is remembered
 pub remembered-at : (said facts : Facts) (lo : ℤ) (r : Remembered) (at : ℕ) (t : Label) (c : Compared)
     → AreRemembered said facts lo r → c ≡ compared_at r.compared.items at → label_at r.«module».now at ≡ Some t
-    → r.began ≤ c.time → IsRemembered lo r facts t.entries c
+    → r.began ≤ c.time → IsRemembered said lo r facts t.entries c
 unfolding AreRemembered
 remembered-at said facts lo r at t c remembered is found later =
     let time = ap (λ (x : Compared). x.time) is in
-    subst (λ (x : Compared). IsRemembered lo r facts t.entries x) (sym is)
+    subst (λ (x : Compared). IsRemembered said lo r facts t.entries x) (sym is)
     (remembered.0 at t found (omega (arith, time, later)))
 
 -- of words that were last changed before the state went on from a label, what that label says is known
@@ -816,86 +741,13 @@ pub remembered-said : (said facts : Facts) (lo : ℤ) (r : Remembered) → AreRe
 unfolding AreRemembered
 remembered-said said facts lo r remembered = remembered.1
 
--- an entry of a loop, of whose words the first was not changed since a time
-pub stays-by : (times : ℤ → ℕ) (time : ℕ) (entry : Entry) (base : ℤ) (count weight : ℕ) (word next : ℤ)
-    (first second : ℕ) → entry.fact ≡ Loop base count weight → word ≡ entry.word → next ≡ entry.word +ℤ pos 1
-    → first ≡ times word → second ≡ times next → first ≤ time → nat_le second time ≡ loop_stays times time entry
-stays-by times time entry base count weight word next first second is word_is next_is first_is second_is below =
-    let here = ap times word_is in
-    let yes : nat_le (times entry.word) time ≡ true = le-leb _ _ (omega (arith, here, first_is, below)) in
-    rw (is, yes) (ap (λ (n : ℕ). nat_le n time) (second_is ∙ ap times next_is))
-
--- no loop is changed where none is wanted
-no-loop : (fact : Fact) (b : Bool) → is_none (loop_of fact) ≡ true
-    → (elim fact as (λ _. Bool) [ Loop base count weight ↦ b | _ ↦ true ]) ≡ true
-no-loop (Loop base count weight) b h = absurd (cc)
-no-loop Unknown b h = refl
-no-loop (Number lo hi) b h = refl
-no-loop (Pointer region lo hi step) b h = refl
-no-loop (CodeAddress offset) b h = refl
-no-loop ReturnAddress b h = refl
-
-pub no-loop-stays : (times : ℤ → ℕ) (time : ℕ) (entries : List Entry) → wants_no_loop entries ≡ true
-    → loops_stay times time entries ≡ true
-no-loop-stays times time [] none = refl
-no-loop-stays times time (entry ∷ entries) none =
-    let both : (is_none (loop_of entry.fact) ≡ true) × (wants_no_loop entries ≡ true) = and_parts _ _ none in
-    and_from _ _
-    (no-loop entry.fact (nat_le (times entry.word) time && nat_le (times (entry.word +ℤ pos 1)) time) both.0)
-    (no-loop-stays times time entries both.1)
-
-all-stay : (times : ℤ → ℕ) (time : ℕ) (entries : List Entry) → ((k : ℤ) → times k ≤ time)
-    → loops_stay times time entries ≡ true
-all-stay times time [] all = refl
-all-stay times time (entry ∷ entries) all =
-    and_from _ _
-    (loop-stays entry.fact (times entry.word) (times (entry.word +ℤ pos 1)) 0 0 time (λ l. all entry.word)
-    (λ l. all (entry.word +ℤ pos 1)) (zero-stays entry.fact))
-    (all-stay times time entries all)
-  where
-    zero-stays : (fact : Fact)
-        → (elim fact as (λ _. Bool) [ Loop base count weight ↦ nat_le 0 time && nat_le 0 time | _ ↦ true ]) ≡ true
-    zero-stays (Loop base count weight) = and_from _ _ (le-leb 0 time (omega arith)) (le-leb 0 time (omega arith))
-    zero-stays Unknown = refl
-    zero-stays (Number lo hi) = refl
-    zero-stays (Pointer region lo hi step) = refl
-    zero-stays (CodeAddress offset) = refl
-    zero-stays ReturnAddress = refl
+-- which words are by themselves
+pub remembered-aged : (said facts : Facts) (lo : ℤ) (r : Remembered) → AreRemembered said facts lo r
+    → AreAged said facts lo r
+unfolding AreRemembered
+remembered-aged said facts lo r remembered = remembered.3
 
 -- ---- a comparison before all changes
-
--- what is paid for an entry of no loop
-no-price : (fact : Fact) (f g : WordFact) → is_none (loop_of fact) ≡ true
-    → (elim fact as (λ _. ℕ) [
-      | Loop base count weight ↦
-          if holds_constant f base && holds_constant g (pos count) then weight * (count - 1) else 0
-      | _ ↦ 0
-    ]) ≡ 0
-no-price (Loop base count weight) f g h = absurd (cc)
-no-price Unknown f g h = refl
-no-price (Number lo hi) f g h = refl
-no-price (Pointer region lo hi step) f g h = refl
-no-price (CodeAddress offset) f g h = refl
-no-price ReturnAddress f g h = refl
-
-none-due : (facts : Facts) (entries : List Entry) → wants_no_loop entries ≡ true → sum_by (price facts) entries ≡ 0
-none-due facts [] none = refl
-none-due facts (entry ∷ entries) none =
-    let both : (is_none (loop_of entry.fact) ≡ true) × (wants_no_loop entries ≡ true) = and_parts _ _ none in
-    let here : price facts entry ≡ 0 =
-    no-price entry.fact (facts entry.word) (facts (entry.word +ℤ pos 1)) both.0 in
-    let rest = none-due facts entries both.1 in
-    let all = sum_by-cons (price facts) entry entries in
-    omega (arith, here, rest, all)
-
-none-whole : (facts : Facts) (entries : List Entry) → wants_no_loop entries ≡ true
-    → list_all (is_whole facts) entries ≡ true
-none-whole facts [] none = refl
-none-whole facts (entry ∷ entries) none =
-    let both : (is_none (loop_of entry.fact) ≡ true) × (wants_no_loop entries ≡ true) = and_parts _ _ none in
-    and_from _ _
-    (no-loop entry.fact (are_alike (is_alone (facts entry.word)) (is_alone (facts (entry.word +ℤ pos 1)))) both.0)
-    (none-whole facts entries both.1)
 
 -- a word that was not changed after the beginning of time is none of the blocks
 outside-blocks : (lo : ℤ) (times : List ℕ) (k : ℤ) → ((n : ℕ) → n < length times → 1 ≤ time_of times n)
@@ -915,15 +767,16 @@ outside-blocks lo times k some none = on (k -ℤ lo) refl none
     on (negsuc n) at l = inl (omega (arith, ints, at))
 
 -- all blocks were changed since
-pub remembered-first : (lo end : ℤ) (r : Remembered) (facts : Facts) (entries : List Entry)
+pub remembered-first : (said : Facts) (lo end : ℤ) (r : Remembered) (facts : Facts) (entries : List Entry)
     → end ≡ lo +ℤ pos (length r.times.items * block_words) → WantsOnlyWithin (entry_fact entries) lo end
     → wants_no_loop entries ≡ true
-    → IsRemembered lo r facts entries (record { time = 0; paid = 0; is_plain = true })
-remembered-first lo end r facts entries end_is within none = record {
+    → IsRemembered said lo r facts entries (record { time = 0; paid = 0; is_plain = true })
+remembered-first said lo end r facts entries end_is within none = record {
   knows = λ k l. silent k (outside-blocks lo r.times.items k (λ n h. r.each n (omega (arith, h))) l);
   held = λ k l m allowing. silent k (unkept k (k -ℤ lo) refl m);
-  whole = λ stays. none-whole facts entries none;
-  due = λ stays. none-due facts entries none;
+  pairs = none-pairs entries none;
+  whole = none-whole (was_alone said lo r 0) entries none;
+  due = none-due (was_alone said lo r 0) entries none;
   plain = λ h. none;
 }
   where
@@ -948,13 +801,14 @@ remembered-first lo end r facts entries end_is within none = record {
     unkept k (negsuc n) at l = inl (omega (arith, ints, at))
 
 -- a block of which no word was written since, and which was widened since by a range that says what is wanted
-pub widened-says : (lo : ℤ) (r : Remembered) (facts : Facts) (entries : List Entry) (c : Compared) (number : ℕ)
-    (low high : ℤ) → IsRemembered lo r facts entries c → (changes_of r.by_block.items number).since ≤ c.time
+pub widened-says : (said : Facts) (lo : ℤ) (r : Remembered) (facts : Facts) (entries : List Entry) (c : Compared)
+    (number : ℕ) (low high : ℤ) → IsRemembered said lo r facts entries c
+    → (changes_of r.by_block.items number).since ≤ c.time
     → (changes_of r.by_block.items number).written ≤ c.time
     → leaving_since r.began (changes_of r.by_block.items number) ≡ Some (Widen low high)
     → BlockImplied (entry_fact entries) (first_of lo number) (Number low high)
     → BlockSaysAll (first_of lo number) facts (entry_fact entries) block_words
-widened-says lo r facts entries c number low high known since written range all = λ j l.
+widened-says said lo r facts entries c number low high known since written range all = λ j l.
     let k = first_of lo number +ℤ pos j in
     let n = number * block_words + j in
     let index : k -ℤ lo ≡ pos n = omega (arith, ints) in
@@ -973,40 +827,58 @@ widened-says lo r facts entries c number low high known since written range all 
     ∙ (ap (allows (Some (Widen low high))) here.is ∙ here.implied))
 
 -- nothing was changed since
-pub recalled-all : (lo : ℤ) (r : Remembered) (facts : Facts) (entries : List Entry) (c : Compared)
-    → ((n : ℕ) → time_of r.times.items n ≤ c.time) → IsRemembered lo r facts entries c → IsRecalled facts entries c
-recalled-all lo r facts entries c none remembered =
-    let all = λ (k : ℤ). on (k -ℤ lo) in
-    let stays = all-stay (word_time lo r.times.items) c.time entries all in
-    record {
-      paid = record {
-        knows = λ k. remembered.knows k (all k);
-        whole = remembered.whole stays;
-        due = remembered.due stays;
-      };
-      plain = remembered.plain;
-    }
+pub known-all : (said : Facts) (lo : ℤ) (r : Remembered) (facts : Facts) (entries : List Entry) (c : Compared)
+    → ((n : ℕ) → time_of r.times.items n ≤ c.time) → IsRemembered said lo r facts entries c
+    → SaysAll facts (entry_fact entries)
+known-all said lo r facts entries c none remembered = λ k. remembered.knows k (on (k -ℤ lo))
   where
     on : (z : ℤ) → index_time r.times.items z ≤ c.time
     on (pos n) = none (n / block_words)
     on (negsuc n) = omega arith
 
--- no loop was changed since, and of the words that were, what is wanted is known
-pub recalled-some : (lo : ℤ) (r : Remembered) (facts : Facts) (entries : List Entry) (c : Compared)
-    → loops_stay (word_time lo r.times.items) c.time entries ≡ true
-    → ChangedSay lo r.times.items facts (entry_fact entries) c.time → IsRemembered lo r facts entries c
-    → IsRecalled facts entries c
-recalled-some lo r facts entries c stays changed remembered = record {
-  paid = record {
-    knows = λ k. elim (cases_lt c.time (word_time lo r.times.items k)) [
-      | inl l ↦ changed k l
-      | inr l ↦ remembered.knows k (omega (arith, l))
-    ];
-    whole = remembered.whole stays;
-    due = remembered.due stays;
-  };
-  plain = remembered.plain;
-}
+-- of the words that were changed since, what is wanted is known
+pub known-some : (said : Facts) (lo : ℤ) (r : Remembered) (facts : Facts) (entries : List Entry) (c : Compared)
+    → ChangedSay lo r.times.items facts (entry_fact entries) c.time → IsRemembered said lo r facts entries c
+    → SaysAll facts (entry_fact entries)
+known-some said lo r facts entries c changed remembered = λ k. elim (cases_lt c.time (word_time lo r.times.items k)) [
+  | inl l ↦ changed k l
+  | inr l ↦ remembered.knows k (omega (arith, l))
+]
+
+-- a comparison with a label that wants no loop
+pub paid-plain : (said : Facts) (lo : ℤ) (r : Remembered) (facts : Facts) (entries : List Entry) (c : Compared)
+    → AreRemembered said facts lo r → AreApart entries → wants_no_loop entries ≡ true
+    → IsRemembered said lo r facts entries c → SaysAll facts (entry_fact entries) → IsPaid facts entries c.paid
+paid-plain said lo r facts entries c remembered apart none known knows =
+    paid-now facts (was_alone said lo r r.time) entries c.paid apart known.pairs
+    (remembered-aged said facts lo r remembered) knows
+    (none-whole (was_alone said lo r r.time) entries none)
+    (none-due (was_alone said lo r r.time) entries none
+    ∙ (sym (none-due (was_alone said lo r c.time) entries none) ∙ known.due))
+
+-- no word was first changed since
+pub paid-still : (said : Facts) (lo : ℤ) (r : Remembered) (facts : Facts) (entries : List Entry) (c : Compared)
+    → AreRemembered said facts lo r → AreApart entries → r.firsts.latest ≤ c.time
+    → IsRemembered said lo r facts entries c → SaysAll facts (entry_fact entries) → IsPaid facts entries c.paid
+paid-still said lo r facts entries c remembered apart latest known knows =
+    let alone : was_alone said lo r r.time ≡ was_alone said lo r c.time =
+    fun_ext (λ k. ap (λ (b : Bool). is_alone (said k) || b) (all-by lo r c.time latest k)) in
+    paid-now facts (was_alone said lo r r.time) entries c.paid apart known.pairs
+    (remembered-aged said facts lo r remembered) knows
+    (ap (λ (a : ℤ → Bool). list_all (whole_by a) entries) alone ∙ known.whole)
+    (ap (λ (a : ℤ → Bool). sum_by (due_by a) entries) alone ∙ known.due)
+
+-- what is due since
+pub paid-more : (said : Facts) (lo : ℤ) (r : Remembered) (facts : Facts) (entries : List Entry) (c : Compared)
+    (due paid : ℕ) → AreRemembered said facts lo r → AreApart entries
+    → AreDueSince (was_alone said lo r c.time) (was_alone said lo r r.time) entries due → paid ≡ c.paid + due
+    → IsRemembered said lo r facts entries c → SaysAll facts (entry_fact entries) → IsPaid facts entries paid
+paid-more said lo r facts entries c due paid remembered apart since sum known knows =
+    let before = known.due in
+    let more = since.paid in
+    paid-now facts (was_alone said lo r r.time) entries paid apart known.pairs
+    (remembered-aged said facts lo r remembered) knows (since.whole known.whole)
+    (omega (arith, before, more, sum))
 
 -- ---- blocks that were changed
 

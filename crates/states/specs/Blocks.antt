@@ -57,6 +57,11 @@ abbrev pub fact_left_by : Option Leaving → WordFact → WordFact
 fact_left_by None said = said
 fact_left_by (Some leaving) said = Alone (left_of leaving (by_itself said))
 
+-- what is left of a fact once it was left so, if it was
+abbrev pub left_fact : Option Leaving → Fact → Fact
+left_fact None said = said
+left_fact (Some leaving) said = left_of leaving said
+
 -- two ways of leaving, the second after the first, if there was a first
 abbrev pub left_after : Option Leaving → Leaving → Leaving
 left_after (Some (Become said)) (Widen lo hi) = Become (widened lo hi said)

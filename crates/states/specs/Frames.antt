@@ -29,7 +29,8 @@ frame_facts frame = facts_left frame.lo frame.by_block.kept.items (over_facts fr
 
 -- So it was at the time of a comparison with entries, and is still for what was not changed since.
 abbrev pub IsKnown : Frame → List Entry → Compared → Type 0
-IsKnown frame entries c = IsRemembered frame.lo frame.remembered (frame_facts frame) entries c
+IsKnown frame entries c =
+    IsRemembered (entry_fact frame.row.now) frame.lo frame.remembered (frame_facts frame) entries c
 
 -- so it is still of all comparisons
 abbrev pub StayKnown : Frame → Frame → Type 0

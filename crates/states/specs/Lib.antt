@@ -5,10 +5,12 @@ pub mod Below
 pub mod Lookup
 pub mod Rows
 pub mod Blocks
+pub mod Sums
 pub mod Frames
 pub mod Comparing
 pub mod Cutting
 pub mod Implied
+pub mod Runs
 pub mod Remembered
 pub mod Claims
 pub mod Remembering

@@ -1,7 +1,8 @@
 -- What is remembered of comparisons with labels: what a label wants is known still of words that were not changed
 -- since.
-use Rattle.std.specs.Prelude.{◌≡◌, ◌≤◌, ◌<◌, ℕ, ◌+◌, ◌*◌, ◌/◌, ℤ, pos, negsuc, ◌+ℤ◌, ◌-ℤ◌, Bool, true, false}
-use Rattle.std.specs.Prelude.{◌&&◌, nat_le, nat_lt, is_none, List, get_or, Option, Some, None, sum_by, if◌then◌else◌}
+use Rattle.std.specs.Prelude.{◌≡◌, ◌≤◌, ◌<◌, ℕ, ◌+◌, ◌-◌, ◌*◌, ◌/◌, ℤ, pos, negsuc, ◌+ℤ◌, ◌-ℤ◌, Bool, true, false}
+use Rattle.std.specs.Prelude.{◌&&◌, ◌||◌, ◌==◌, nat_le, nat_lt, is_none, List, get_or, Option, Some, None, sum_by}
+use Rattle.std.specs.Prelude.{if◌then◌else◌}
 use Rattle.std.specs.List.{list_all}
 use Rattle.std.proofs.Props.{props}
 use Rattle.module_format.specs.Rows.{Fact, Entry}
@@ -14,7 +15,7 @@ use Rattle.states.specs.declared.remembered.Compared.{Compared}
 use Rattle.states.specs.declared.span.Leaving.{Leaving}
 use Rattle.states.specs.declared.span.Leaving.TheVariants.{Become, Widen}
 use Rattle.states.specs.State.{Facts, entry_fact}
-use Rattle.states.specs.Below.{implies, says, is_whole, price}
+use Rattle.states.specs.Below.{implies, says, are_alike, is_whole, price}
 use Rattle.states.specs.Blocks.{block_words}
 use Rattle.states.specs.Comparing.{SaysAll, loop_of}
 
@@ -56,6 +57,20 @@ word_written lo words k = index_written words (k -ℤ lo)
 abbrev pub no_changes : Changes
 no_changes = record { written = 0; since = 0; left = None; became = record { time = 0; fact = Unknown } }
 
+-- a first change was made since the state began as a label's, and by a time
+abbrev pub is_by : ℕ → ℕ → ℕ → Bool
+is_by began time first = nat_le began first && nat_le first time
+
+-- when the first change was, once there is one more: it stays if it was made since the state began as a label's
+abbrev pub first_since : ℕ → ℕ → ℕ → ℕ
+first_since began first time = if nat_lt first began then time else first
+
+-- the word of an index was changed by a time: it was written by itself by then, or its block was left
+abbrev pub index_changed : ℕ → List ℕ → List ℕ → ℕ → ℤ → Bool
+index_changed began firsts lefts time (pos index) =
+    is_by began time (time_of firsts index) || is_by began time (time_of lefts (index / block_words))
+index_changed began firsts lefts time (negsuc n) = false
+
 -- how a block's words were changed
 abbrev pub changes_of : List Changes → ℕ → Changes
 changes_of blocks number = get_or blocks number no_changes
@@ -92,19 +107,37 @@ HasTimes-prop words times = hlevel props
 
 -- ---- what a label wants
 
--- the entry is of no loop, or both of its words are what they were at a time
-abbrev pub loop_stays : (ℤ → ℕ) → ℕ → Entry → Bool
-loop_stays times time entry = elim entry.fact [
-  | Loop base count weight ↦ nat_le (times entry.word) time && nat_le (times (entry.word +ℤ pos 1)) time
-  | _ ↦ true
-]
-
-abbrev pub loops_stay : (ℤ → ℕ) → ℕ → List Entry → Bool
-loops_stay times time entries = list_all (loop_stays times time) entries
-
 -- no entry is of a loop
 abbrev pub wants_no_loop : List Entry → Bool
 wants_no_loop entries = list_all (λ entry. is_none (loop_of entry.fact)) entries
+
+-- each entry of a loop is about two words
+abbrev pub are_loops_of_two : List Entry → Bool
+are_loops_of_two entries = list_all (λ entry. is_none (loop_of entry.fact) || (entry.span == 2)) entries
+
+-- no entry's loop is half known, where these words are by themselves
+abbrev pub whole_by : (ℤ → Bool) → Entry → Bool
+whole_by alone entry = elim entry.fact [
+  | Loop base count weight ↦ are_alike (alone entry.word) (alone (entry.word +ℤ pos 1))
+  | _ ↦ true
+]
+
+-- what is paid for an entry of which what it wants is known: its loop is entered if its words are by themselves
+abbrev pub due_by : (ℤ → Bool) → Entry → ℕ
+due_by alone entry = elim entry.fact [
+  | Loop base count weight ↦ if alone entry.word then weight * (count - 1) else 0
+  | _ ↦ 0
+]
+
+-- What is due for an entry beside what was paid, where its words were by themselves or are now.
+pub record IsDueSince (was now : ℤ → Bool) (entry : Entry) (due : ℕ) : Type 0 where
+  pub whole : whole_by was entry ≡ true → whole_by now entry ≡ true
+  pub paid : due_by now entry ≡ due_by was entry + due
+
+-- so for all entries
+pub record AreDueSince (was now : ℤ → Bool) (entries : List Entry) (due : ℕ) : Type 0 where
+  pub whole : list_all (whole_by was) entries ≡ true → list_all (whole_by now) entries ≡ true
+  pub paid : sum_by (due_by now) entries ≡ sum_by (due_by was) entries + due
 
 -- At least what entries want is known of each word, no loop that they want is half known, and this is paid for those
 -- that are entered.
@@ -112,11 +145,6 @@ pub record IsPaid (facts : Facts) (entries : List Entry) (paid : ℕ) : Type 0 w
   pub knows : SaysAll facts (entry_fact entries)
   pub whole : list_all (is_whole facts) entries ≡ true
   pub due : sum_by (price facts) entries ≡ paid
-
--- a comparison tells so, and says whether a loop is wanted
-pub record IsRecalled (facts : Facts) (entries : List Entry) (c : Compared) : Type 0 where
-  pub paid : IsPaid facts entries c.paid
-  pub plain : c.is_plain ≡ true → wants_no_loop entries ≡ true
 
 -- of each word of the blocks that were changed after a time, at least what is wanted is known
 abbrev pub ChangedSay : ℤ → List ℕ → Facts → Facts → ℕ → Type 0

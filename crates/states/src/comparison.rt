@@ -43,7 +43,7 @@ fn compare_quickly(number: u128, state: &State, row: &LabelRow) -> Option<u128>
     if !stands(state, row) {
         return None;
     }
-    let paid = state.frame.paid(&row.entries)?;
+    let paid = state.frame.paid_quickly(&row.entries)?;
     let cost = paid.checked_add(u128::from(row.number))?;
     if number < cost {
         return None;
@@ -99,6 +99,49 @@ pub fn cost_below(state: &State, row: &LabelRow) -> Result<u64, Rule>
     Ok(cost as u64)
 }
 
+/// What `cost_below` says, if at least what the row wants is known of its words a run at a time.
+#[tactic(auto, unfolding(crate::specs::Below::below))]
+fn cost_by_runs(state: &mut State, row: &LabelRow) -> Option<u64>
+    requires { AreApart row.now.entries.items }
+    ensures cost { IfSome result (λ cost. below (state_of state.old) (label_of row.now) ≡ Ok cost) }
+    ensures left { IsLeft state.old state.new }
+    ensures same { state.new.frame.remembered.«module».now ≡ state.old.frame.remembered.«module».now }
+{
+    if !stands(state, row) {
+        return None;
+    }
+    let paid = state.frame.paid(&row.entries)?;
+    let cost = paid.checked_add(u128::from(row.number))?;
+    if u128::from(state.number) < cost {
+        return None;
+    }
+    Some(cost as u64)
+}
+
+/// What `cost_below` says. It is tested word by word only if that is not decided a run of words at a time.
+fn cost_somehow(state: &mut State, row: &LabelRow) -> Result<u64, Rule>
+    requires { AreApart row.now.entries.items }
+    ensures cost { result ≡ below (state_of state.old) (label_of row.now) }
+    ensures left { IsLeft state.old state.new }
+    ensures same { state.new.frame.remembered.«module».now ≡ state.old.frame.remembered.«module».now }
+{
+    if let Some(cost) = cost_by_runs(state, row) {
+        return Ok(cost);
+    }
+    cost_below(state, row)
+}
+
+/// What `cost_below` returns. What is known is asked a run of words at a time, and sums of spans are kept. So it takes a
+/// few steps for each entry of the row and of the label before, however many words were left; it is tested word by word
+/// only if that does not decide it.
+pub fn cost_of_label(state: &mut State, row: &LabelRow) -> Result<u64, Rule>
+    requires { AreApart row.now.entries.items }
+    ensures cost { result ≡ below (state_of state.old) (label_of row.now) }
+    ensures left { IsLeft state.old state.new }
+{
+    cost_somehow(state, row)
+}
+
 /// What it costs to go on as the label at an offset, if a comparison with it is remembered that tells so.
 #[tactic(auto, unfolding(crate::specs::Below::below))]
 fn recalled(state: &mut State, to: u32, row: &LabelRow) -> Option<u64>
@@ -135,7 +178,7 @@ pub fn cost_at(state: &mut State, to: u32) -> Result<u64, Rule>
     if let Some(cost) = recalled(state, to, row) {
         return Ok(cost);
     }
-    let cost = cost_below(state, row)?;
+    let cost = cost_somehow(state, row)?;
     state.frame.remember(to, row, cost - row.number);
     Ok(cost)
 }

@@ -13,6 +13,7 @@ ghost use Rattle.states.specs.Remembered.{HasTimes, HasTimes-prop};
 ghost use Rattle.states.specs.Remembering.{AreRemembered, AreRemembered-prop};
 ghost use Rattle.states.specs.Rows.{AreApart, LoopFits, IsRow};
 ghost use Rattle.states.specs.State.{is_silent, entry_fact, parameter_fact};
+ghost use Rattle.states.specs.Sums.{AreSums, AreSums-prop};
 
 use crate::blocks::{Block, Blocks, block_words};
 use crate::claims::Claims;
@@ -22,6 +23,7 @@ use crate::overlay::Overlay;
 use crate::remembered::Remembered;
 use crate::row::{row_fact, said_of};
 use crate::span::Leaving;
+use crate::sums::Sums;
 use certificate::Module;
 use module_format::{Entry, Fact, ParameterKind, ProcedureRow, Region, Step};
 use std::alloc::{AllocError, Global};
@@ -35,6 +37,7 @@ pub(crate) struct Frame<'a> {
     pub(crate) overlay: Overlay,
     /// What is kept for blocks of words, so that a span is neither asked nor left word by word.
     pub(crate) by_block: Blocks,
+    pub(crate) sums: Sums,
     pub(crate) remembered: Remembered<'a>,
     pub(crate) claims: Claims<'a>,
     ghost apart: { AreApart row.now },
@@ -47,6 +50,7 @@ pub(crate) struct Frame<'a> {
     ghost summed: { AreSummed (facts_left lo by_block.kept.items (facts_over lo row.now overlay.written.items)) lo
         by_block.kept.items } by { AreSummed-prop (facts_left lo by_block.kept.items
             (facts_over lo row.now overlay.written.items)) lo by_block.kept.items },
+    ghost added: { AreSums (facts_left lo by_block.kept.items (facts_over lo row.now overlay.written.items)) lo sums } by { AreSums-prop (facts_left lo by_block.kept.items (facts_over lo row.now overlay.written.items)) lo sums },
     ghost timed: { HasTimes (vec_len overlay.places) (vec_len remembered.times) } by { HasTimes-prop (vec_len overlay.places) (vec_len remembered.times) },
     ghost each_timed: { vec_len remembered.words ≡ vec_len overlay.places },
     ghost compared: { AreRemembered (entry_fact row.now)
@@ -84,12 +88,13 @@ impl<'a> Frame<'a> {
             row: &[],
             overlay: Overlay::new(alloc, room)?,
             by_block: Blocks::new(alloc, room / block_words())?,
+            sums: Sums::new(alloc, room)?,
             remembered: Remembered::new(alloc, module, room)?,
             claims: Claims::new(alloc, module, room / block_words() + 1)?,
         })
     }
 
-    /// The same frame again, of which no comparison is remembered.
+    /// The same frame again, of which no comparison is remembered, and no sum but those of blocks.
     pub(crate) fn copy(&self, alloc: Global) -> Result<Self, AllocError>
         ensures facts { IfOk result (λ f. frame_facts f ≡ frame_facts self.now) }
         ensures room { IfOk result (SameRoom self.now) }
@@ -101,7 +106,8 @@ impl<'a> Frame<'a> {
             row: self.row,
             overlay: self.overlay.copy(alloc)?,
             by_block: self.by_block.copy(alloc)?,
-            remembered: Remembered::new(alloc, module, room)?,
+            sums: Sums::new(alloc, room)?,
+            remembered: self.remembered.copy(alloc)?,
             claims: Claims::new(alloc, module, room / block_words() + 1)?,
         })
     }
@@ -211,6 +217,7 @@ impl<'a> Frame<'a> {
         self.settle(number);
         self.overlay.set(index, fact);
         self.by_block.forget(number);
+        self.sums.write(index);
         self.remembered.place(index);
     }
 
@@ -252,6 +259,7 @@ impl<'a> Frame<'a> {
     {
         self.overlay.clear();
         self.by_block.clear();
+        self.sums.clear();
         self.remembered.restart();
         self.row = row;
     }
@@ -283,7 +291,7 @@ impl<'a> Frame<'a> {
     }
 
     /// Whether at least what an entry says is known of each of its words, tested word by word.
-    fn entry_holds(&self, entry: &Entry) -> bool
+    pub(crate) fn entry_holds(&self, entry: &Entry) -> bool
         ensures { result ≡ words_say (frame_facts self.now) entry.now entry.now.span }
     {
         let word = i64::from(entry.word);
@@ -312,7 +320,7 @@ impl<'a> Frame<'a> {
 
     /// Whether both words of a loop come from that loop, or neither does, if the entry is of one.
     #[inline(always)]
-    fn is_whole_at(&self, entry: &Entry) -> bool
+    pub(crate) fn is_whole_at(&self, entry: &Entry) -> bool
         ensures { result ≡ is_whole (frame_facts self.now) entry.now }
     {
         match entry.fact {
@@ -350,7 +358,7 @@ impl<'a> Frame<'a> {
     /// What it costs to enter the loop that an entry wants: its weight for each turn but the first, if its words are
     /// constants. `None` if that is no number of 128 bits.
     #[inline(always)]
-    fn price(&self, entry: &Entry) -> Option<u128>
+    pub(crate) fn price(&self, entry: &Entry) -> Option<u128>
         ensures { let paid = price (frame_facts self.now) entry.now in SomeIff result (paid < 2 ^ 128) paid }
     {
         match entry.fact {

@@ -14,7 +14,7 @@ ghost use Rattle.states.specs.Cutting.{AreLoopsApart};
 ghost use Rattle.states.specs.Frames.{frame_facts};
 ghost use Rattle.states.specs.Lookup.{lookup};
 ghost use Rattle.states.specs.Rows.{AreApart, LoopFits};
-ghost use Rattle.states.specs.State.{entry_fact};
+ghost use Rattle.states.specs.State.{Facts, entry_fact};
 ghost use Rattle.states.specs.declared.known.WordFact.TheVariants.{Alone};
 
 use crate::blocks::block_words;
@@ -44,7 +44,7 @@ struct Entering {
 
 /// What it costs to enter a loop: its weight for each turn but the first.
 #[inline(always)]
-fn weight_of(wanted: Loop) -> Option<u128>
+pub(crate) fn weight_of(wanted: Loop) -> Option<u128>
     ensures { IfSome result (λ paid. paid ≡ wanted.weight * (wanted.count - 1)) }
 {
     u128::from(wanted.weight).checked_mul(u128::from(wanted.count.saturating_sub(1)))
@@ -282,9 +282,9 @@ impl Frame<'_> {
     }
 
     /// What is paid for the loop that an entry wants, whose words are asked by themselves.
-    fn loop_paid(&self, entry: &Entry, wanted: Loop) -> Option<u128>
+    pub(crate) fn loop_paid(&self, entry: &Entry, wanted: Loop) -> Option<u128>
         requires { loop_of entry.now.fact ≡ Some wanted }
-        ensures { IfSome result (IsEntered (entry_fact self.now.row.now) (frame_facts self.now) entry.now) }
+        ensures { IfSome result (λ paid. (said : Facts) → IsEntered said (frame_facts self.now) entry.now paid) }
     {
         if entry.span != 2 {
             return None;
@@ -398,7 +398,7 @@ impl Frame<'_> {
 
     /// What is paid for the loops that a row wants and that are entered. At least what the row wants is known of each
     /// word, and no loop that it wants is half known. `None`: one of these fails, or too many words were changed.
-    pub(crate) fn paid(&self, row: &[Entry]) -> Option<u128>
+    pub(crate) fn paid_quickly(&self, row: &[Entry]) -> Option<u128>
         requires { AreApart row.now }
         ensures hold { IfSome result (λ _. entries_hold (frame_facts self.now) row.now ≡ true) }
         ensures whole { IfSome result (λ _. list_all (is_whole (frame_facts self.now)) row.now ≡ true) }

@@ -1,7 +1,7 @@
 //! Spans of a frame's words: what is known of them together, and what is left of each.
 #![tactic(auto, unfolding(crate::specs::Blocks::HaveRoom))]
 
-ghost use Rattle.std.specs.Prelude.{◌≡◌, ◌≤◌, ◌<◌, ℕ, ℤ, pos, ◌+ℤ◌, ◌≤ℤ◌, ◌<ℤ◌, false, IfSome, IsFalse};
+ghost use Rattle.std.specs.Prelude.{◌≡◌, ◌≤◌, ◌<◌, ◌^◌, ℕ, ℤ, pos, ◌+ℤ◌, ◌≤ℤ◌, ◌<ℤ◌, false, IfSome, IsFalse};
 ghost use Rattle.states.specs.Blocks.{block_words, first_of, is_number};
 ghost use Rattle.states.specs.Frames.{frame_facts, with_span, SameRoom, HasRoom, HasRoomForSpan};
 ghost use Rattle.states.specs.Spans.{together, on_span};
@@ -9,20 +9,15 @@ ghost use Rattle.states.specs.State.{by_itself, changed};
 
 use crate::blocks::{Block, block_words};
 use crate::frame::Frame;
+use crate::frame_sums::Piece;
 use crate::known::LoopWord;
 use crate::span::{Leaving, Together, is_number};
+use crate::sums::Size;
 use module_format::Fact;
-
-/// Some words, and what is known of them together.
-#[derive(Clone, Copy)]
-struct Piece {
-    count: u32,
-    all: Together,
-}
 
 impl Frame<'_> {
     /// The number of the block that begins at a word, if one does.
-    fn block_from(&self, word: i64) -> Option<usize>
+    pub(crate) fn block_from(&self, word: i64) -> Option<usize>
         ensures { IfSome result (λ number. (first_of self.now.lo number ≡ word) × (number < self.now.by_block.room)) }
     {
         let lo = i64::from(self.lo);
@@ -45,18 +40,32 @@ impl Frame<'_> {
         self.by_block.get(number).sum
     }
 
-    /// The first of `most` words from a word on: those of the block that begins there, if it was summed, else one.
+    /// The first of `most` words from a word on: those of the longest span that begins there and was summed, or some of
+    /// which the same is known, else one.
     fn piece(&self, word: i64, most: u32) -> Piece
-        requires { 1 ≤ most }
+        requires some { 1 ≤ most }
+        requires near { word <ℤ pos (2 ^ 40) }
         ensures some { 1 ≤ result.count }
         ensures few { result.count ≤ most }
         ensures all { result.all ≡ together (frame_facts self.now) word result.count }
     {
+        if let Some(piece) = self.summed_piece(Size::Zone, word, most) {
+            return piece;
+        }
+        if let Some(piece) = self.summed_piece(Size::Page, word, most) {
+            return piece;
+        }
         let size = block_words() as u32;
         if size <= most {
             if let Some(all) = self.sum_from(word) {
                 return Piece { count: size, all };
             }
+        }
+        if let Some(piece) = self.summed_piece(Size::Group, word, most) {
+            return piece;
+        }
+        if let Some(piece) = self.known_piece(word, most) {
+            return piece;
         }
         Piece {
             count: 1,
@@ -65,7 +74,7 @@ impl Frame<'_> {
     }
 
     /// What is known of `count` words from `first` on together. Words that cannot be written are not looked at: nothing
-    /// is known of them. A block that was summed is one step.
+    /// is known of them. A span that was summed is one step.
     pub(crate) fn together(&self, first: i32, count: u32) -> Together
         ensures { result ≡ together (frame_facts self.now) first count }
     {
@@ -82,7 +91,7 @@ impl Frame<'_> {
     }
 
     /// The block that begins at a word is summed from now on.
-    fn sum_block(&mut self, number: usize, word: i32)
+    pub(crate) fn sum_block(&mut self, number: usize, word: i32)
         requires room { number < self.old.by_block.room }
         requires begins { first_of self.old.lo number ≡ word }
         ensures facts { frame_facts self.new ≡ frame_facts self.old }
@@ -97,41 +106,6 @@ impl Frame<'_> {
         }
     }
 
-    /// Sums the block that begins at a word from now on, if there is one of at most `most` words. Returns how many
-    /// words it has, or else one.
-    fn sum_some(&mut self, word: i32, most: u32) -> u32
-        requires { 1 ≤ most }
-        ensures some { 1 ≤ result }
-        ensures few { result ≤ most }
-        ensures facts { frame_facts self.new ≡ frame_facts self.old }
-        ensures room { SameRoom self.old self.new }
-    {
-        let size = block_words() as u32;
-        if size <= most {
-            if let Some(number) = self.block_from(i64::from(word)) {
-                self.sum_block(number, word);
-                return size;
-            }
-        }
-        1
-    }
-
-    /// The blocks within `count` words from `first` on are summed from now on.
-    pub(crate) fn sum(&mut self, first: i32, count: u32)
-        ensures facts { frame_facts self.new ≡ frame_facts self.old }
-        ensures room { SameRoom self.old self.new }
-    {
-        if count < block_words() as u32 {
-            return;
-        }
-        let end = words_before(first, count, self.end());
-        let mut done = words_before(first, count, i64::from(self.lo));
-        while done < end {
-            let word = i64::from(first) + i64::from(done);
-            done += self.sum_some(word as i32, end - done);
-        }
-    }
-
     /// A block that is to be widened is summed before, so that its sum is known after that too.
     fn sum_widened(&mut self, number: usize, word: i32, leaving: Leaving)
         requires room { number < self.old.by_block.room }
@@ -141,7 +115,7 @@ impl Frame<'_> {
         ensures blocks { self.new.by_block.room ≡ self.old.by_block.room }
     {
         if let Leaving::Widen { .. } = leaving {
-            self.sum_block(number, word);
+            self.sum_whole(number, word);
         }
     }
 
@@ -197,6 +171,7 @@ impl Frame<'_> {
         };
         self.by_block.set(number, block);
         self.remembered.leave(number, leaving);
+        self.sums.leave(number, leaving);
     }
 
     /// The words of the block that begins at a word are left so, and the others what they are.
@@ -271,7 +246,7 @@ impl Frame<'_> {
 }
 
 /// How many of `count` words from `first` on come before a word.
-fn words_before(first: i32, count: u32, word: i64) -> u32
+pub(crate) fn words_before(first: i32, count: u32, word: i64) -> u32
     ensures few { result ≤ count }
     ensures before { (j : ℕ) → j < result → (first +ℤ pos j) <ℤ word }
     ensures behind { (j : ℕ) → result ≤ j → j < count → word ≤ℤ (first +ℤ pos j) }

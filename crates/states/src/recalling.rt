@@ -2,17 +2,19 @@
 #![tactic(auto, unfolding(crate::specs::Blocks::HaveRoom, crate::specs::Remembered::HasTimes))]
 
 ghost use Rattle.std.specs.Prelude.{◌≡◌, ◌<◌, ◌≤◌, ◌⊎◌, ◌*◌, ℕ, ℤ, pos, ◌+ℤ◌, ◌≤ℤ◌, ◌<ℤ◌, ◌^◌, IsTrue, IfSome, Some};
-ghost use Rattle.std.specs.Prelude.{true, vec_len};
+ghost use Rattle.std.specs.Prelude.{IsFalse, true, vec_len, sum_by};
+ghost use Rattle.std.specs.List.{list_all};
 ghost use Rattle.module_format.specs.Contents.{label_of, label_at};
 ghost use Rattle.states.specs.Blocks.{block_words, first_of};
-ghost use Rattle.states.specs.Comparing.{BlockSaysAll};
+ghost use Rattle.states.specs.Comparing.{SaysAll, BlockSaysAll, loop_of};
 ghost use Rattle.states.specs.Below.{says};
 ghost use Rattle.states.specs.Frames.{frame_facts, IsKnown, StayKnown, IsAsking, WordIsSaid, EntryIsSaid};
 ghost use Rattle.states.specs.Frames.{SameRoom};
 ghost use Rattle.states.specs.Implied.{BlockImplied};
-ghost use Rattle.states.specs.Remembered.{compared_at, time_of, changes_of, word_time, word_written, loop_stays};
-ghost use Rattle.states.specs.Remembered.{loops_stay};
-ghost use Rattle.states.specs.Remembered.{wants_no_loop, range_says, became_until, IsPaid, IsRecalled, ChangedSay};
+ghost use Rattle.states.specs.Remembered.{compared_at, time_of, changes_of, word_written, wants_no_loop};
+ghost use Rattle.states.specs.Remembered.{are_loops_of_two, range_says, became_until, IsPaid, ChangedSay};
+ghost use Rattle.states.specs.Remembered.{IsDueSince, AreDueSince};
+ghost use Rattle.states.specs.Remembering.{was_changed, was_alone};
 ghost use Rattle.states.specs.Rows.{AreApart};
 ghost use Rattle.states.specs.State.{entry_fact, is_same_number, said_of};
 
@@ -20,8 +22,9 @@ use crate::blocks::block_words;
 use crate::frame::Frame;
 use crate::implication::{implies, says};
 use crate::implied::{all_implied, from_word, is_row_within};
+use crate::known::Loop;
 use crate::remembered::{Became, Compared};
-use crate::row::{end_of, entry_said, loop_of, past_saying, start_of};
+use crate::row::{end_of, entry_said, loop_of, past_saying, row_fact, start_of};
 use crate::span::Leaving;
 use module_format::{Entry, Fact, LabelRow};
 
@@ -32,8 +35,16 @@ pub(crate) fn wants_no_loop(row: &[Entry]) -> bool
     row.iter().all(|entry| loop_of(entry.fact).is_none())
 }
 
-/// How many words are asked at most of a pair of labels that is new.
-const MOST_OF_NEW: u64 = 1024;
+/// Whether each entry of a loop is about two words.
+fn are_loops_of_two(row: &[Entry]) -> bool
+    ensures { result ≡ are_loops_of_two row.now }
+{
+    row.iter()
+        .all(|entry| loop_of(entry.fact).is_none() || entry.span == 2)
+}
+
+/// How many words are asked one by one at most of a pair of labels that is new.
+const MOST_OF_NEW: u64 = 256;
 
 /// How many words may be asked at a jump that were not written since, before it is looked where that was in vain.
 const FEW: u64 = 64;
@@ -55,10 +66,11 @@ pub(crate) struct Asking {
     pub became: Became,
 }
 
-/// A comparison that tells what is paid, and how many words were asked that were not written since.
+/// A comparison that tells what is paid now, and how many words were asked that were not written since.
 #[derive(Clone, Copy)]
 struct Told {
     compared: Compared,
+    paid: u64,
     asked: u64,
 }
 
@@ -88,36 +100,118 @@ fn became_until(began: u64, became: Became, wanted: Fact) -> u64
 }
 
 impl Frame<'_> {
-    /// When the block of a word was last changed.
-    fn word_time(&self, word: i64) -> u64
-        ensures { result ≡ word_time self.now.lo self.now.remembered.times.items word }
+    /// Whether a word was first changed after a time.
+    #[inline(always)]
+    fn is_changed_after(&self, word: i64, time: u64) -> bool
+        ensures { let changed = was_changed self.now.lo self.now.remembered in
+            IsFalse result → changed self.now.remembered.time word ≡ changed time word }
     {
         let lo = i64::from(self.lo);
         if word < lo {
-            return 0;
+            return false;
         }
         self.remembered
-            .time_of(word.abs_diff(lo) as usize / block_words())
+            .firsts
+            .is_changed_after(word.abs_diff(lo) as usize, time)
     }
 
-    /// Whether an entry is of no loop, or neither of its words was changed since a time.
-    fn loop_stays(&self, time: u64, entry: &Entry) -> bool
-        ensures { result ≡ loop_stays (word_time self.now.lo self.now.remembered.times.items) time entry.now }
+    /// Whether a word was changed by a time, since the state became that of a label.
+    fn was_changed(&self, word: i64, time: u64) -> bool
+        ensures { result ≡ was_changed self.now.lo self.now.remembered time word }
     {
-        match entry.fact {
-            Fact::Loop { .. } => {
-                let word = start_of(entry);
-                self.word_time(word) <= time && self.word_time(word + 1) <= time
-            }
-            _ => true,
+        let lo = i64::from(self.lo);
+        if word < lo {
+            return false;
+        }
+        self.remembered
+            .firsts
+            .was_changed(self.remembered.began, word.abs_diff(lo) as usize, time)
+    }
+
+    /// Whether a word was by itself at a time: the label's row says so, or it was changed by then.
+    fn was_alone(&self, word: i64, time: u64) -> bool
+        ensures { result ≡ was_alone (entry_fact self.now.row.now) self.now.lo self.now.remembered time word }
+    {
+        row_fact(self.row, word).is_alone() || self.was_changed(word, time)
+    }
+
+    /// What is due for the loop that an entry wants, if a word of it was changed since a time: what it costs to enter
+    /// it, if it was kept then and is entered now. `None`: it is half known.
+    fn changed_due(&self, time: u64, entry: &Entry, wanted: Loop) -> Option<u64>
+        requires { loop_of entry.now.fact ≡ Some wanted }
+        ensures { let alone = was_alone (entry_fact self.now.row.now) self.now.lo self.now.remembered in
+            IfSome result (IsDueSince (alone time) (alone self.now.remembered.time) entry.now) }
+    {
+        let word = start_of(entry);
+        let now = self.remembered.time;
+        let is_alone = self.was_alone(word, now);
+        if is_alone != self.was_alone(word + 1, now) {
+            return None;
+        }
+        let was_alone = self.was_alone(word, time);
+        if is_alone == was_alone {
+            return Some(0);
+        }
+        if was_alone {
+            return None;
+        }
+        wanted
+            .weight
+            .checked_mul(u64::from(wanted.count.saturating_sub(1)))
+    }
+
+    /// What is due for the loop that an entry wants. Where no word of it was changed since a time, nothing is.
+    #[inline(always)]
+    fn loop_due(&self, time: u64, entry: &Entry, wanted: Loop) -> Option<u64>
+        requires { loop_of entry.now.fact ≡ Some wanted }
+        ensures { let alone = was_alone (entry_fact self.now.row.now) self.now.lo self.now.remembered in
+            IfSome result (IsDueSince (alone time) (alone self.now.remembered.time) entry.now) }
+    {
+        let word = start_of(entry);
+        if !self.is_changed_after(word, time) && !self.is_changed_after(word + 1, time) {
+            return Some(0);
+        }
+        self.changed_due(time, entry, wanted)
+    }
+
+    /// What is due for an entry, beside what was paid at a time.
+    #[inline(always)]
+    fn entry_due(&self, time: u64, entry: &Entry) -> Option<u64>
+        ensures { let alone = was_alone (entry_fact self.now.row.now) self.now.lo self.now.remembered in
+            IfSome result (IsDueSince (alone time) (alone self.now.remembered.time) entry.now) }
+    {
+        match loop_of(entry.fact) {
+            Some(wanted) => self.loop_due(time, entry, wanted),
+            None => Some(0),
         }
     }
 
-    /// Whether this holds of each entry of a row.
-    fn loops_stay(&self, time: u64, row: &[Entry]) -> bool
-        ensures { result ≡ loops_stay (word_time self.now.lo self.now.remembered.times.items) time row.now }
+    /// What is due for the loops that a row wants, beside what was paid at a time.
+    #[inline(never)]
+    fn loops_due(&self, time: u64, row: &[Entry]) -> Option<u64>
+        ensures { let alone = was_alone (entry_fact self.now.row.now) self.now.lo self.now.remembered in
+            IfSome result (AreDueSince (alone time) (alone self.now.remembered.time) row.now) }
     {
-        row.iter().all(|entry| self.loop_stays(time, entry))
+        let mut due: u64 = 0;
+        for entry in row {
+            due = due.checked_add(self.entry_due(time, entry)?)?;
+        }
+        Some(due)
+    }
+
+    /// What is paid where all is known that a row wants: what was paid at a comparison, and what is due beside.
+    fn paid_since(&self, row: &LabelRow, compared: Compared) -> Option<u64>
+        requires apart { AreApart row.now.entries.items }
+        requires known { IsKnown self.now row.now.entries.items compared }
+        requires knows { SaysAll (frame_facts self.now) (entry_fact row.now.entries.items) }
+        ensures { IfSome result (IsPaid (frame_facts self.now) row.now.entries.items) }
+    {
+        if compared.is_plain || self.remembered.firsts.latest <= compared.time {
+            return Some(compared.paid);
+        }
+        let due = self.loops_due(compared.time, &row.entries)?;
+        let paid = compared.paid.checked_add(due)?;
+        Some(paid)
     }
 
     /// The word of an index, which need not be one that can be written.
@@ -239,7 +333,8 @@ impl Frame<'_> {
     }
 
     /// Whether what an entry wants of a word is known, if it is asked: where it was written, or how its block was left
-    /// does not say it. `most` words may be asked that were not written. Returns how many may be asked after that.
+    /// does not say it. `most` words may be asked that were not written since a comparison, or at all where none was
+    /// made. Returns how many may be asked after that.
     #[inline(always)]
     fn word_says(
         &self,
@@ -262,7 +357,8 @@ impl Frame<'_> {
         if !says(self.fact_at(word), entry_said(entry, word)) {
             return None;
         }
-        if is_written {
+        let is_free = is_written && asking.time > 0;
+        if is_free {
             return Some(most);
         }
         most.checked_sub(1)
@@ -471,20 +567,16 @@ impl Frame<'_> {
         Some(compared)
     }
 
-    /// That comparison, if what was changed since is not less than the label wants.
-    fn known(&self, offset: u32, row: &LabelRow) -> Option<Told>
+    /// How many words are asked that were not written since a comparison, if what was changed since is not less than
+    /// the label wants.
+    fn asked_since(&self, offset: u32, row: &LabelRow, compared: Compared) -> Option<u64>
         requires label { label_at self.now.remembered.«module».now offset ≡ Some (label_of row.now) }
         requires apart { AreApart row.now.entries.items }
-        ensures known { IfSome result (λ told. IsKnown self.now row.now.entries.items told.compared) }
-        ensures recalled { IfSome result
-            (λ told. IsRecalled (frame_facts self.now) row.now.entries.items told.compared) }
+        requires known { IsKnown self.now row.now.entries.items compared }
+        ensures { IfSome result (λ _. SaysAll (frame_facts self.now) (entry_fact row.now.entries.items)) }
     {
-        let compared = self.last(offset, row)?;
         if compared.time == self.remembered.time {
-            return Some(Told { compared, asked: 0 });
-        }
-        if !compared.is_plain && !self.loops_stay(compared.time, &row.entries) {
-            return None;
+            return Some(0);
         }
         let most = if compared.time == 0 {
             MOST_OF_NEW
@@ -492,15 +584,33 @@ impl Frame<'_> {
             u64::MAX
         };
         let left = self.changed_say(offset, row, compared, most)?;
-        let asked = most.saturating_sub(left);
-        Some(Told { compared, asked })
+        Some(most.saturating_sub(left))
+    }
+
+    /// That comparison, if it tells what is paid now.
+    fn known(&self, offset: u32, row: &LabelRow) -> Option<Told>
+        requires label { label_at self.now.remembered.«module».now offset ≡ Some (label_of row.now) }
+        requires apart { AreApart row.now.entries.items }
+        ensures known { IfSome result (λ told. IsKnown self.now row.now.entries.items told.compared) }
+        ensures paid { IfSome result (λ told. IsPaid (frame_facts self.now) row.now.entries.items told.paid) }
+    {
+        let compared = self.last(offset, row)?;
+        let asked = self.asked_since(offset, row, compared)?;
+        let paid = self.paid_since(row, compared)?;
+        Some(Told {
+            compared,
+            paid,
+            asked,
+        })
     }
 
     /// It is remembered what was paid at the label at a code offset.
     fn put(&mut self, offset: u32, row: &LabelRow, paid: u64, is_plain: bool)
         requires label { label_at self.old.remembered.«module».now offset ≡ Some (label_of row.now) }
+        requires apart { AreApart row.now.entries.items }
         requires paid { IsPaid (frame_facts self.old) row.now.entries.items paid }
         requires plain { IsTrue is_plain → wants_no_loop row.now.entries.items ≡ true }
+        requires pairs { are_loops_of_two row.now.entries.items ≡ true }
         ensures facts { frame_facts self.new ≡ frame_facts self.old }
         ensures room { SameRoom self.old self.new }
     {
@@ -544,23 +654,31 @@ impl Frame<'_> {
         ensures room { SameRoom self.old self.new }
     {
         self.prepare(offset, row);
-        let Told { compared, asked } = self.known(offset, row)?;
+        let Told {
+            compared,
+            paid,
+            asked,
+        } = self.known(offset, row)?;
         if asked > FEW {
             self.renew_some(offset, row, compared);
         }
-        let Compared { paid, is_plain, .. } = compared;
-        self.put(offset, row, paid, is_plain);
+        self.put(offset, row, paid, compared.is_plain);
         Some(paid)
     }
 
-    /// A comparison with the label at a code offset is remembered from now on.
+    /// A comparison with the label at a code offset is remembered from now on, if each loop that it wants is of two
+    /// words.
     pub(crate) fn remember(&mut self, offset: u32, row: &LabelRow, paid: u64)
         requires label { label_at self.old.remembered.«module».now offset ≡ Some (label_of row.now) }
+        requires apart { AreApart row.now.entries.items }
         requires paid { IsPaid (frame_facts self.old) row.now.entries.items paid }
         ensures facts { frame_facts self.new ≡ frame_facts self.old }
         ensures room { SameRoom self.old self.new }
     {
-        let is_plain = wants_no_loop(&row.entries);
-        self.put(offset, row, paid, is_plain);
+        if wants_no_loop(&row.entries) {
+            self.put(offset, row, paid, true);
+        } else if are_loops_of_two(&row.entries) {
+            self.put(offset, row, paid, false);
+        }
     }
 }

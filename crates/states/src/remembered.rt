@@ -6,6 +6,7 @@ ghost use Rattle.states.specs.Blocks.{block_words};
 ghost use Rattle.states.specs.Remembered.{never, compared_at, time_of, changes_of, leaving_since, HasTimes, HasTimes-prop};
 
 use crate::blocks::block_words;
+use crate::firsts::Firsts;
 use crate::span::Leaving;
 use certificate::Module;
 use module_format::Fact;
@@ -116,6 +117,7 @@ pub(crate) struct Remembered<'a> {
     pub times: Vec<u64>,
     /// For each word when it was last written by itself.
     pub words: Vec<u64>,
+    pub firsts: Firsts,
     pub by_block: Vec<Changes>,
     /// When the last change was.
     pub time: u64,
@@ -132,11 +134,14 @@ pub(crate) struct Remembered<'a> {
     ghost became: { (n : ℕ) → (changes_of by_block.items n).became.time ≤ time },
     ghost recent: { (n : ℕ) → (changes_of by_block.items n).written ≤ time },
     ghost placed: { (n : ℕ) → time_of words.items n ≤ (changes_of by_block.items (n / block_words)).written },
+    ghost each_first: { vec_len firsts.words ≡ vec_len words },
+    ghost each_left: { vec_len firsts.blocks ≡ vec_len times },
+    ghost early: { firsts.latest ≤ time },
     ghost timed: { HasTimes (vec_len words) (vec_len times) } by { HasTimes-prop (vec_len words) (vec_len times) },
 }
 
 impl<'a> Remembered<'a> {
-    ghost use Rattle.states.specs.Remembering.{IsKept, IsPlaced, IsLeftSo, IsRenewed};
+    ghost use Rattle.states.specs.Remembering.{IsKept, IsPlaced, IsLeftSo, IsRenewed, IsPut, IsCopy};
 
     /// Nothing is remembered, of a frame with this number of words.
     pub(crate) fn new(
@@ -147,12 +152,14 @@ impl<'a> Remembered<'a> {
         requires { words < 2 ^ 40 }
         ensures same { IfOk result (λ r. r.«module».now ≡ «module».now) }
         ensures words { IfOk result (λ r. vec_len r.words ≡ words) }
-        ensures none { IfOk result (λ r. (at : ℕ) → compared_at r.compared.items at ≡ never) }
+        ensures none { IfOk result (λ r. (at : ℕ) → (compared_at r.compared.items at).time < r.began) }
         ensures began { IfOk result (λ r. r.time ≤ r.began) }
-        ensures late { IfOk result (λ r. (n : ℕ) → n < vec_len r.times → r.began ≤ time_of r.times.items n) }
+        ensures firsts { IfOk result (λ r. (n : ℕ) → time_of r.firsts.words.items n < r.began) }
+        ensures lefts { IfOk result (λ r. (n : ℕ) → time_of r.firsts.blocks.items n < r.began) }
     {
         let blocks = words / block_words() + 1;
         let times = first_times(alloc, blocks)?;
+        let firsts = Firsts::new(alloc, words, blocks)?;
         let words = first_times(alloc, words)?;
         let by_block = first_changes(alloc, blocks)?;
         let compared = none_compared(alloc, module.tables().code.len())?;
@@ -160,9 +167,31 @@ impl<'a> Remembered<'a> {
             module,
             times,
             words,
+            firsts,
             by_block,
             time: 1,
             began: 1,
+            compared,
+        })
+    }
+
+    /// The same again, but for the comparisons: there is none.
+    pub(crate) fn copy(&self, alloc: Global) -> Result<Self, AllocError>
+        ensures { IfOk result (λ r. IsCopy self.now r) }
+    {
+        let times = Vec::from_slice(alloc, &self.times)?;
+        let words = Vec::from_slice(alloc, &self.words)?;
+        let firsts = self.firsts.copy(alloc)?;
+        let by_block = Vec::from_slice(alloc, &self.by_block)?;
+        let compared = none_compared(alloc, self.compared.len())?;
+        Ok(Remembered {
+            module: self.module,
+            times,
+            words,
+            firsts,
+            by_block,
+            time: self.time,
+            began: self.began,
             compared,
         })
     }
@@ -224,8 +253,10 @@ impl<'a> Remembered<'a> {
         ensures kept { IsKept self.old self.new }
         ensures times { self.new.times ≡ self.old.times }
         ensures words { self.new.words ≡ self.old.words }
+        ensures firsts { self.new.firsts ≡ self.old.firsts }
         ensures blocks { self.new.by_block ≡ self.old.by_block }
         ensures began { self.new.began ≡ self.old.began }
+        ensures time { self.old.time ≤ self.new.time }
         ensures later { (at : ℕ) → (compared_at self.new.compared.items at).time < self.new.time }
     {
         match self.time.checked_add(1) {
@@ -250,6 +281,7 @@ impl<'a> Remembered<'a> {
         self.tick();
         self.times[number] = self.time;
         self.words[index] = self.time;
+        self.firsts.write(index, self.began, self.time);
         self.by_block[number] = Changes {
             written: self.time,
             since,
@@ -274,6 +306,7 @@ impl<'a> Remembered<'a> {
         let left = leaving.after(self.range(number));
         self.tick();
         self.times[number] = self.time;
+        self.firsts.leave(number, self.began, self.time);
         let Changes {
             written,
             since,
@@ -324,21 +357,19 @@ impl<'a> Remembered<'a> {
         ensures kept { IsKept self.old self.new }
         ensures none { (at : ℕ) → (compared_at self.new.compared.items at).time < self.new.began }
         ensures began { self.new.time ≤ self.new.began }
+        ensures firsts { (n : ℕ) → time_of self.new.firsts.words.items n < self.new.began }
+        ensures lefts { (n : ℕ) → time_of self.new.firsts.blocks.items n < self.new.began }
     {
         self.tick();
+        self.firsts.begin(self.time);
         self.began = self.time;
     }
 
     /// The state was compared with the label at a code offset, and this was paid.
     pub(crate) fn put(&mut self, offset: usize, paid: u64, is_plain: bool)
-        ensures same { self.new.«module».now ≡ self.old.«module».now }
-        ensures times { self.new.times ≡ self.old.times }
-        ensures words { self.new.words ≡ self.old.words }
-        ensures blocks { self.new.by_block ≡ self.old.by_block }
-        ensures began { self.new.began ≡ self.old.began }
-        ensures each { (at : ℕ) → (compared_at self.new.compared.items at ≡ compared_at self.old.compared.items at)
-            ⊎ ((at ≡ offset) × (compared_at self.new.compared.items at
-            ≡ record { time = self.new.time; paid = paid; is_plain = is_plain })) }
+        ensures put { IsPut offset paid is_plain self.old self.new }
+        ensures len { vec_len self.new.times ≡ vec_len self.old.times }
+        ensures words { vec_len self.new.words ≡ vec_len self.old.words }
     {
         if offset < self.compared.len() {
             self.compared[offset] = Compared {

@@ -1,7 +1,7 @@
 //! What is known of a process at a place of its code.
 
 ghost use Rattle.std.specs.Prelude.{◌≡◌, ◌≤◌, ◌<◌, ◌-◌, ◌≤ℤ◌, ◌<ℤ◌, ℤ, true, false, IfOk, Some, SomeIff, IsTrue};
-ghost use Rattle.std.specs.Prelude.{slice_get, IsFalse, FitsSigned, IfSome, sum_by};
+ghost use Rattle.std.specs.Prelude.{slice_get, IsFalse, FitsSigned, IfSome, sum_by, pos, ◌^◌};
 ghost use Rattle.std.specs.List.{list_all};
 ghost use Rattle.std.specs.Int.{w32};
 ghost use Rattle.module_format.specs.Contents.{Contents, contents_of, procedure_of, label_of};
@@ -17,7 +17,7 @@ ghost use Rattle.states.specs.Frames.{with_alone};
 ghost use Rattle.states.specs.Rows.{AreApart, LoopFits, IsRowOf};
 ghost use Rattle.states.specs.Views.{state_of, CanWrite, CanWriteSpan, BelongsTo, IsLeft, IsUsable, AreUsable};
 ghost use Rattle.states.specs.Room.{Covers, HasRoomForGuards};
-ghost use Rattle.states.specs.Below.{entries_hold, is_whole, price};
+ghost use Rattle.states.specs.Below.{entries_hold, is_whole, price, holds_constant};
 ghost use Rattle.states.specs.Cutting.{SaysOutside, SaysInside, AreLoopsApart};
 ghost use Rattle.states.specs.Spans.{is_in_span, together, on_span, after_change};
 
@@ -293,6 +293,19 @@ impl<'a> State<'a> {
         self.frame.together(first, count)
     }
 
+    /// The first word after those of the frame from `first` on, before `end`, that each have this number, which is no
+    /// loop's. Else `first`. Of words that were not changed since the label a row's entry is asked for all in a block of
+    /// 64.
+    pub fn constant_until(&self, first: i64, end: i64, number: i64) -> i64
+        requires some { first <ℤ end }
+        requires near { end <ℤ pos (2 ^ 40) }
+        ensures each { let facts = (state_of self.now).frame in
+            (k : ℤ) → first ≤ℤ k → k <ℤ result → holds_constant (facts k) number ≡ true }
+        ensures none { result ≤ℤ first → holds_constant ((state_of self.now).frame first) number ≡ false }
+    {
+        self.frame.constant_until(first, end, number)
+    }
+
     /// Each of `count` words of the frame from `first` on, at least one, is left so from now on, and no register speaks
     /// of what they were. A loop that loses one of its words leaves what the other says by itself. The time grows with
     /// the number of blocks of 64 among them, and of the other words. A block that is widened is summed before.
@@ -312,11 +325,12 @@ impl<'a> State<'a> {
     /// What is paid for the loops that entries want and that are entered. At least what the entries want is known of
     /// each word, and no loop that they want is half known. `None`: one of these fails, or too many words were changed
     /// since the last label. The time is as that of `cost_below`.
-    pub fn paid(&self, entries: &[Entry]) -> Option<u128>
+    pub fn paid(&mut self, entries: &[Entry]) -> Option<u128>
         requires { AreApart entries.now }
-        ensures hold { IfSome result (λ _. entries_hold (state_of self.now).frame entries.now ≡ true) }
-        ensures whole { IfSome result (λ _. list_all (is_whole (state_of self.now).frame) entries.now ≡ true) }
-        ensures paid { IfSome result (λ paid. sum_by (price (state_of self.now).frame) entries.now ≡ paid) }
+        ensures hold { IfSome result (λ _. entries_hold (state_of self.old).frame entries.now ≡ true) }
+        ensures whole { IfSome result (λ _. list_all (is_whole (state_of self.old).frame) entries.now ≡ true) }
+        ensures paid { IfSome result (λ paid. sum_by (price (state_of self.old).frame) entries.now ≡ paid) }
+        ensures left { IsLeft self.old self.new }
     {
         self.frame.paid(entries)
     }

@@ -5,7 +5,7 @@ ghost use Rattle.states.specs.declared.rule.Rule.TheVariants as rules;
 ghost use Rattle.module_format.specs.Contents.{Contents};
 ghost use Rattle.module_format.specs.Keeping.{Keeps};
 ghost use Rattle.states.specs.State.{State as Known};
-ghost use Rattle.states.specs.Views.{state_of, BelongsTo};
+ghost use Rattle.states.specs.Views.{state_of, BelongsTo, IsLeft};
 ghost use Rattle.rulings.specs.Rulings.{Ruling};
 ghost use Rattle.facts.specs.Rules.{is_instruction};
 ghost use Rattle.rulings.specs.Telling.{Advances};
@@ -22,17 +22,18 @@ use facts::{
     Continuation, Started, Way, advance, is_instruction, leave, reserve_guards, start, way_of,
 };
 use prefix_decoder::Instr;
-use states::{Rule, State, cost_below};
+use states::{Rule, State, cost_of_label};
 use std::alloc::AllocError;
 
 /// What it costs to fall into an offset where this is given. Nothing may fall into a procedure.
-pub(crate) fn entering(state: &State, falls: bool, given: Given) -> Result<u64, Rule>
+pub(crate) fn entering(state: &mut State, falls: bool, given: Given) -> Result<u64, Rule>
     requires { IsComparable given }
-    ensures { let before = falling_state falls (state_of state.now) in
+    ensures cost { let before = falling_state falls (state_of state.old) in
         (m : Contents) (at : ℕ) → IsGiven m at given.entry → result ≡ entering m at before }
+    ensures left { IsLeft state.old state.new }
 {
     match given {
-        Given::Label(row) if falls => cost_below(state, row),
+        Given::Label(row) if falls => cost_of_label(state, row),
         Given::Procedure { .. } if falls => Err(Rule::Flow),
         _ => Ok(0),
     }

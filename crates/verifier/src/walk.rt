@@ -111,7 +111,7 @@ impl<'a> Walk<'a> {
             return Place::Unspelled;
         };
         let given = self.rows.take(at);
-        let entered = entering(&self.state, self.is_reached, given);
+        let entered = entering(&mut self.state, self.is_reached, given);
         Place::Instruction(Arrival {
             at,
             instr,

@@ -26,8 +26,8 @@ paid-requires c =
     (c.label_rows_are_sound.ensures.at_offsets c.args.place.now.module.now c.args.found.now.branch.now.entry
     (label_of c.args.row.now) c.requires.kept c.requires.label).apart
 
-pub returns : goal.returns
-returns c =
+pub returns-clause-cost : goal.returns-clause-cost
+returns-clause-cost c =
     let m = c.args.place.now.module.now in
     let par = par_of c.args.found.now.par.now in
     let b = branch_of c.args.found.now.branch.now in

@@ -18,9 +18,20 @@ returns-clause-own c =
     let found =
     handed_word c.writable_word.result c.in_ok-first.first (to_z w64 (of_z w64 c.callee_word.result)) c.in_ok-first.was
     c.writable_word.ensures.some in
-    is_own (calling_of c.args.self.now) (to_z w32 (of_z w32 c.in_ok-first.first)) c.frame_size.result
+    sym c.if-not-writes_words.false
+    ∙ is_own (calling_of c.args.self.now) (to_z w32 (of_z w32 c.in_ok-first.first)) c.frame_size.result
     c.writes_words.result (omega (arith, ints)) c.frame_size.ensures
-    (c.writes_words.ensures.allowed c.args.self.now.place.module.now c.requires.belongs) c.if-not-writes_words.false
+    (c.writes_words.ensures.allowed c.args.self.now.place.module.now c.requires.belongs)
+
+pub returns-then-not-writes_words-clause-own : goal.returns-then-not-writes_words-clause-own
+returns-then-not-writes_words-clause-own c =
+    let found =
+    handed_word c.writable_word.result c.in_ok-first.first (to_z w64 (of_z w64 c.callee_word.result)) c.in_ok-first.was
+    c.writable_word.ensures.some in
+    sym c.if-not-writes_words.true
+    ∙ is_own (calling_of c.args.self.now) (to_z w32 (of_z w32 c.in_ok-first.first)) c.frame_size.result
+    c.writes_words.result (omega (arith, ints)) c.frame_size.ensures
+    (c.writes_words.ensures.allowed c.args.self.now.place.module.now c.requires.belongs)
 
 pub returns-clause-room : goal.returns-clause-room
 returns-clause-room c =

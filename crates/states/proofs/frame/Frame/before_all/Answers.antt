@@ -25,6 +25,6 @@ returns c =
     let inside : WantsOnlyWithin (entry_fact entries) frame.lo end =
     subst (λ (es : List Entry). WantsOnlyWithin (entry_fact es) frame.lo end) c.deref.ensures.value
     (subst (λ (lo : ℤ). WantsOnlyWithin (entry_fact c.deref.result.now) lo end) from_is within) in
-    remembered-first frame.lo end kept (frame_facts frame) entries
+    remembered-first (entry_fact frame.row.now) frame.lo end kept (frame_facts frame) entries
     (at ∙ ap (λ (n : ℕ). frame.lo +ℤ pos (n * block_words)) (c.len.ensures ∙ len)) inside
     (c.is_plain.ensures c.if-not-is_plain.false)

@@ -1,13 +1,15 @@
-use Rattle.std.proofs.Common.{List, ℕ, ap, sym, subst, ◌∙◌, pos, ◌+ℤ◌, ◌<ℤ◌, SFits, rules}
+use Rattle.std.proofs.Common.{◌≡◌, List, ℕ, ap, sym, subst, ◌∙◌, pos, ◌+ℤ◌, ◌<ℤ◌, SFits, rules}
 use Rattle.std.proofs.lemmas.Int.{to_z-of_z}
 use Rattle.std.specs.Int.{w32}
 use Rattle.states.specs.declared.blocks.Block.{Block}
+use Rattle.states.specs.declared.frame.Frame.{Frame}
 use Rattle.states.specs.declared.overlay.Written.{Written}
 use Rattle.states.specs.Blocks.{block_numbered, facts_left}
 use Rattle.states.specs.Lookup.{facts_over}
 use Rattle.states.specs.Frames.{frame_facts}
+use Rattle.states.specs.State.{entry_fact}
 use Rattle.states.proofs.Leavings.{summed-same}
-use Rattle.states.proofs.Remembering.{remembered-never}
+use Rattle.states.proofs.Remembering.{remembered-copied}
 use Rattle.states.proofs.frame.Frame.copy.Goals as goal
 
 pub invariant_of-result-clause-inside : goal.invariant_of-result-clause-inside
@@ -18,18 +20,34 @@ invariant_of-result-clause-inside c =
     let inside = frame.inside k known in
     (inside.0, subst (λ (n : ℕ). k <ℤ (frame.lo +ℤ pos n)) (sym c.in_ok-copy.ensures.room) inside.1))
 
+-- what is known is the same where what was written and what is kept for blocks is
+same-facts : (frame : Frame) (blocks : List Block) (written : List Written) → blocks ≡ frame.by_block.kept.items
+    → written ≡ frame.overlay.written.items
+    → facts_left frame.lo blocks (facts_over frame.lo frame.row.now written) ≡ frame_facts frame
+same-facts frame blocks written blocks_is written_is =
+    ap (λ (bs : List Block). facts_left frame.lo bs (facts_over frame.lo frame.row.now written)) blocks_is
+    ∙ ap (λ (ws : List Written). facts_left frame.lo frame.by_block.kept.items
+    (facts_over frame.lo frame.row.now ws)) written_is
+
 pub invariant_of-result-clause-summed : goal.invariant_of-result-clause-summed
 invariant_of-result-clause-summed c =
     let frame = c.args.self.now in
     let fits : SFits w32 frame.lo = search rules in
     rw (to_z-of_z w32 frame.lo fits) (summed-same (frame_facts frame) _ frame.lo frame.by_block.kept.items
     c.in_ok-copy-2.field-0.kept.items frame.summed
-    (ap (λ (blocks : List Block). facts_left frame.lo blocks
-    (facts_over frame.lo frame.row.now c.in_ok-copy.field-0.written.items)) c.in_ok-copy-2.ensures.kept
-    ∙ ap (λ (written : List Written). facts_left frame.lo frame.by_block.kept.items
-    (facts_over frame.lo frame.row.now written)) c.in_ok-copy.ensures.written)
+    (same-facts frame c.in_ok-copy-2.field-0.kept.items c.in_ok-copy.field-0.written.items c.in_ok-copy-2.ensures.kept
+    c.in_ok-copy.ensures.written)
     (λ n. ap (λ (blocks : List Block). (block_numbered blocks n).sum) c.in_ok-copy-2.ensures.kept))
 
 pub invariant_of-result-clause-compared : goal.invariant_of-result-clause-compared
 invariant_of-result-clause-compared c =
-    remembered-never _ _ _ _ c.in_ok-new.ensures.late c.in_ok-new.ensures.none c.in_ok-new.ensures.began
+    let frame = c.args.self.now in
+    let fits : SFits w32 frame.lo = search rules in
+    rw (to_z-of_z w32 frame.lo fits) (remembered-copied (entry_fact frame.row.now) (frame_facts frame) _ frame.lo
+    frame.remembered c.in_ok-copy-3.field-0 c.in_ok-copy-3.ensures
+    (same-facts frame c.in_ok-copy-2.field-0.kept.items c.in_ok-copy.field-0.written.items c.in_ok-copy-2.ensures.kept
+    c.in_ok-copy.ensures.written)
+    frame.compared)
+
+pub invariant_of-result-clause-added : goal.invariant_of-result-clause-added
+invariant_of-result-clause-added c = c.in_ok-new.ensures _ _

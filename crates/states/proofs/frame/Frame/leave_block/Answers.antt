@@ -6,7 +6,9 @@ use Rattle.states.specs.Spans.{together}
 use Rattle.states.specs.Frames.{frame_facts, over_facts, with_span}
 use Rattle.states.proofs.BlockSums.{sum-is}
 use Rattle.states.proofs.Leavings.{block-left, summed-left, sum-right}
+use Rattle.states.proofs.Decaying.{left-alike, left-aged}
 use Rattle.states.proofs.Remembering.{block-there, outside-block, remembered-changed, left-held, left-fixed}
+use Rattle.states.proofs.SpanSums.{all-same, room-below}
 use Rattle.states.proofs.frame.Frame.leave_block.Goals as goal
 use Rattle.states.proofs.frame.Frame.leave_block.Goals.{After-set}
 
@@ -59,4 +61,22 @@ invariant_of-self-clause-compared c =
     c.leave.ensures (left-so after))
     (left-fixed frame.lo c.args.number c.args.leaving (frame_facts frame) _ frame.remembered c.leave.new.self
     c.leave.ensures (left-so after))
+    (left-alike frame.lo c.args.number c.args.leaving frame.remembered c.leave.new.self c.leave.ensures)
+    (left-aged (entry_fact frame.row.now) (frame_facts frame) _ frame.lo c.args.number c.args.leaving frame.remembered
+    c.leave.new.self c.leave.ensures (left-so after))
     frame.compared
+
+pub invariant_of-self-clause-added : goal.invariant_of-self-clause-added
+invariant_of-self-clause-added c =
+    let frame = c.args.self.now in
+    let after = (goal.at.invariant_of-self-clause-added c).After-set in
+    all-same _ _ frame.lo c.leave-2.new.self (c.leave-2.ensures (frame_facts frame) frame.lo frame.added)
+    (left-so after)
+
+pub leave-requires-2 : goal.leave-requires-2
+leave-requires-2 c =
+    let frame = c.args.self.now in
+    let low = c.requires in
+    let high = frame.high in
+    room-below frame.lo c.args.number frame.by_block.room (vec_len frame.overlay.places) low frame.whole frame.low
+    frame.high

@@ -1,13 +1,21 @@
-use Rattle.std.proofs.Common.{refl}
-use Rattle.states.specs.State.{entry_fact}
-use Rattle.states.specs.Frames.{frame_facts}
-use Rattle.states.proofs.Comparisons.{says-combined, entries_hold-true}
+use Rattle.std.proofs.Common.{◌≡◌, ◌+◌, arith, ap, sym, ◌∙◌}
+use Rattle.std.specs.Prelude.{sum_by}
+use Rattle.std.specs.List.{list_all}
+use Rattle.states.specs.State.{Facts}
+use Rattle.states.specs.Below.{entries_hold, is_whole, price}
 use Rattle.states.proofs.frame.Frame.paid.Goals as goal
 
 pub returns-clause-hold : goal.returns-clause-hold
 returns-clause-hold c =
-    let frame = c.args.self.now in
-    entries_hold-true (frame_facts frame) c.args.row.now c.requires
-    (says-combined frame.lo frame.row.now frame.overlay.written.items frame.by_block.kept.items
-    (entry_fact c.args.row.now) (c.if-not-written_holds.ensures refl) (c.if-not-left_holds.ensures refl)
-    c.in_ok-paid.ensures.each)
+    ap (λ (f : Facts). entries_hold f c.args.row.now) (sym c.sum_entries.ensures.facts) ∙ c.in_ok-paid.ensures.hold
+
+pub returns-clause-whole : goal.returns-clause-whole
+returns-clause-whole c =
+    ap (λ (f : Facts). list_all (is_whole f) c.args.row.now) (sym c.sum_entries.ensures.facts)
+    ∙ c.in_ok-paid.ensures.whole
+
+pub returns-clause-paid : goal.returns-clause-paid
+returns-clause-paid c =
+    let none : c.in_ok-paid.paid + 0 ≡ c.in_ok-paid.paid = omega arith in
+    ap (λ (f : Facts). sum_by (price f) c.args.row.now) (sym c.sum_entries.ensures.facts)
+    ∙ (c.in_ok-paid.ensures.due ∙ none)

@@ -8,7 +8,9 @@ use Rattle.states.specs.State.{entry_fact}
 use Rattle.states.proofs.FrameFacts.{facts_over-write, distance}
 use Rattle.states.proofs.BlockSums.{summed-write}
 use Rattle.states.proofs.Leavings.{word-placed}
+use Rattle.states.proofs.Decaying.{placed-alike, placed-aged}
 use Rattle.states.proofs.Remembering.{outside-word, remembered-changed, placed-held, placed-fixed}
+use Rattle.states.proofs.SpanSums.{all-same, all-but}
 use Rattle.states.proofs.frame.Frame.place.Goals as goal
 use Rattle.states.proofs.frame.Frame.place.Goals.{After-forget}
 
@@ -81,4 +83,17 @@ invariant_of-self-clause-compared c =
     c.place.new.self c.place.ensures (placed after) (word-is after))
     (placed-fixed frame.lo c.args.word index (index / block_words) c.args.fact (frame_facts frame) _ frame.remembered
     c.place.new.self c.place.ensures (placed after) (word-is after))
+    (placed-alike frame.lo index (index / block_words) frame.remembered c.place.new.self c.place.ensures)
+    (placed-aged (entry_fact frame.row.now) (frame_facts frame) _ frame.lo c.args.word index (index / block_words)
+    c.args.fact frame.remembered c.place.new.self c.place.ensures (placed after) (word-is after))
     frame.compared
+
+pub invariant_of-self-clause-added : goal.invariant_of-self-clause-added
+invariant_of-self-clause-added c =
+    let frame = c.settle.new.self in
+    let after = (goal.at.invariant_of-self-clause-added c).After-forget in
+    let index = c.abs_diff-index.result in
+    all-same _ _ frame.lo c.write.new.self
+    (c.write.ensures (frame_facts frame) (with_alone c.args.word c.args.fact (frame_facts frame)) frame.lo frame.added
+    (λ j other. all-but (frame_facts frame) frame.lo c.args.word index j c.args.fact (word-is after) other))
+    (placed after)

@@ -1,4 +1,3 @@
-use Rattle.std.proofs.Common.{ap}
 use Rattle.module_format.specs.Contents.{label_of}
 use Rattle.states.specs.Frames.{frame_facts}
 use Rattle.states.specs.State.{entry_fact}
@@ -9,7 +8,5 @@ pub invariant_of-self-clause-compared : goal.invariant_of-self-clause-compared
 invariant_of-self-clause-compared c =
     let frame = c.args.self.now in
     remembered-put (entry_fact frame.row.now) (frame_facts frame) frame.lo frame.remembered c.put.new.self
-    (label_of c.args.row.now) c.args.offset c.args.paid c.args.is_plain c.put.ensures.same
-    (ap (λ v. v.items) c.put.ensures.times) (ap (λ v. v.items) c.put.ensures.words)
-    (ap (λ v. v.items) c.put.ensures.blocks) c.put.ensures.began c.put.ensures.each c.requires.label c.requires.paid
-    c.requires.plain frame.compared
+    (label_of c.args.row.now) c.args.offset c.args.paid c.args.is_plain c.put.ensures.put c.requires.label
+    c.requires.apart c.requires.paid c.requires.plain c.requires.pairs frame.compared

@@ -12,5 +12,5 @@ invariant_of-self-clause-compared c =
 pub returns-clause-known : goal.returns-clause-known
 returns-clause-known c = λ entries compared known.
     let frame = c.args.self.now in
-    renewed-known frame.lo c.args.number frame.remembered c.renew.new.self (frame_facts frame) entries compared
+    renewed-known (entry_fact frame.row.now) frame.lo c.args.number frame.remembered c.renew.new.self (frame_facts frame) entries compared
     c.renew.ensures known

@@ -19,4 +19,7 @@ invariant_of-self-clause-compared c =
     remembered-none _ _ _ _
     (facts-cleared c.args.self.now.lo c.clear-2.new.self.kept.items c.args.row.now c.clear.new.self.written.items
     c.clear-2.ensures.none c.clear.ensures.empty)
-    c.restart.ensures.none c.restart.ensures.began
+    c.restart.ensures.none c.restart.ensures.began c.restart.ensures.firsts c.restart.ensures.lefts
+
+pub invariant_of-self-clause-added : goal.invariant_of-self-clause-added
+invariant_of-self-clause-added c = c.clear-3.ensures _ _

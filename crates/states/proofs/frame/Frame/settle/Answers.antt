@@ -6,6 +6,7 @@ use Rattle.states.specs.State.{Facts, entry_fact}
 use Rattle.states.specs.Frames.{frame_facts, over_facts}
 use Rattle.states.proofs.Leavings.{block-settled, summed-same, sums-set}
 use Rattle.states.proofs.Remembering.{remembered-same}
+use Rattle.states.proofs.SpanSums.{all-same}
 use Rattle.states.proofs.frame.Frame.settle.Goals as goal
 use Rattle.states.proofs.frame.Frame.settle.Goals.{After-set}
 
@@ -42,3 +43,8 @@ invariant_of-self-clause-compared c =
     let frame = c.settle_words.new.self in
     remembered-same (entry_fact frame.row.now) (frame_facts frame) _ frame.lo frame.remembered
     (same-facts (goal.at.invariant_of-self-clause-compared c).After-set) frame.compared
+
+pub invariant_of-self-clause-added : goal.invariant_of-self-clause-added
+invariant_of-self-clause-added c =
+    let frame = c.settle_words.new.self in
+    all-same _ _ frame.lo frame.sums frame.added (same-facts (goal.at.invariant_of-self-clause-added c).After-set)

@@ -12,6 +12,7 @@ use Rattle.states.proofs.FrameFacts.{facts_over-write}
 use Rattle.states.proofs.BlockSums.{number-of}
 use Rattle.states.proofs.Leavings.{word-settled, settled-more, some-leaving, summed-same}
 use Rattle.states.proofs.Remembering.{remembered-same}
+use Rattle.states.proofs.SpanSums.{all-same}
 use Rattle.states.proofs.frame.Frame.settle_words.Goals as goal
 use Rattle.states.proofs.frame.Frame.settle_words.Goals.{After-set}
 
@@ -101,3 +102,7 @@ invariant_of-self-clause-compared c =
     remembered-same (entry_fact frame.row.now) (frame_facts frame)
     (facts_left frame.lo frame.by_block.kept.items (new-facts c)) frame.lo frame.remembered (same-facts c)
     frame.compared
+
+pub invariant_of-self-clause-added : goal.invariant_of-self-clause-added
+invariant_of-self-clause-added c =
+    all-same _ _ c.loop-i.self.lo c.loop-i.self.sums c.loop-i.self.added (same-facts c)

@@ -9,6 +9,7 @@ use Rattle.states.specs.Spans.{together}
 use Rattle.states.proofs.BlockSums.{summed-more}
 use Rattle.states.proofs.Leavings.{left-same, lefts-set}
 use Rattle.states.proofs.Remembering.{remembered-same}
+use Rattle.states.proofs.SpanSums.{all-same}
 use Rattle.states.proofs.frame.Frame.sum_block.Goals as goal
 use Rattle.states.proofs.frame.Frame.sum_block.Goals.{After-set}
 
@@ -47,3 +48,8 @@ invariant_of-self-clause-compared c =
     let frame = c.args.self.now in
     remembered-same (entry_fact frame.row.now) (frame_facts frame) _ frame.lo frame.remembered (same-facts c)
     frame.compared
+
+pub invariant_of-self-clause-added : goal.invariant_of-self-clause-added
+invariant_of-self-clause-added c =
+    let frame = c.args.self.now in
+    all-same _ _ frame.lo frame.sums frame.added (same-facts c)

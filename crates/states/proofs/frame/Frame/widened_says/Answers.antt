@@ -4,6 +4,7 @@ use Rattle.std.specs.Int.{w32}
 use Rattle.states.specs.declared.remembered.Changes.{Changes}
 use Rattle.states.specs.declared.span.Leaving.TheVariants.{Widen}
 use Rattle.states.specs.Frames.{frame_facts}
+use Rattle.states.specs.State.{entry_fact}
 use Rattle.states.specs.Remembered.{changes_of, leaving_since}
 use Rattle.states.proofs.Remembering.{widened-says}
 use Rattle.states.proofs.frame.Frame.widened_says.Goals as goal
@@ -22,6 +23,7 @@ returns c = λ yes.
     let second = c.if-compared-changes-2.false in
     let range : leaving_since kept.began (changes_of kept.by_block.items c.args.number) ≡ Some (Widen lo hi) =
     sym c.range.ensures ∙ search rules in
-    widened-says frame.lo kept (frame_facts frame) c.args.row.now c.args.compared c.args.number lo hi c.requires.known
+    widened-says (entry_fact frame.row.now) frame.lo kept (frame_facts frame) c.args.row.now c.args.compared
+    c.args.number lo hi c.requires.known
     (omega (arith, first, since)) (omega (arith, second, written)) range
     (rw (to_z-of_z w32 lo lo_fits, to_z-of_z w32 hi hi_fits) at (c.fact_says.ensures yes))

@@ -19,8 +19,8 @@ is-said c =
     (sym fact)
     ∙ (ap (says c.fact_at.result) (sym wanted) ∙ (sym c.says.ensures ∙ c.if-not-says.false))
 
-pub returns-then-is_written : goal.returns-then-is_written
-returns-then-is_written c = inl (is-said (goal.at.returns-then-is_written c).Else-not-says)
+pub returns-then-is_free : goal.returns-then-is_free
+returns-then-is_free c = inl (is-said (goal.at.returns-then-is_free c).Else-not-says)
 
 pub returns : goal.returns
 returns c =

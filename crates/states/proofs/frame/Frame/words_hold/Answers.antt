@@ -8,6 +8,7 @@ use Rattle.states.specs.Below.{says}
 use Rattle.states.specs.Frames.{frame_facts}
 use Rattle.states.proofs.Comparisons.{ahead-falls}
 use Rattle.states.proofs.Entering.{held-past, held-word}
+use Rattle.states.proofs.NextWords.{next-fits}
 use Rattle.states.proofs.frame.Frame.words_hold.Goals as goal
 
 pub returns-then-end-passed : goal.returns-then-end-passed
@@ -27,7 +28,7 @@ loop-word-preserved c =
     let begun = c.loop-word.invariant.ahead in
     let near = c.end_of-end.ensures.near in
     let fits : SFits w64 passed = search rules in
-    let next_fits : SFits w64 (passed +ℤ pos 1) = search (rules, arith, ints) in
+    let next_fits = next-fits passed fits (omega (arith, ints, near)) in
     let said_at = rw (to_z-of_z w64 passed fits) at c.fact_at.ensures.value in
     let held =
     held-past said facts c.args.base.now c.loop-word.rest.now c.past_saying-passed.result.row.now entry _ _ passed
@@ -50,6 +51,6 @@ loop-word-smaller c =
     let near = c.end_of-end.ensures.near in
     let value = c.end_of-end.ensures.value in
     let fits : SFits w64 passed = search rules in
-    let next_fits : SFits w64 (passed +ℤ pos 1) = search (rules, arith, ints) in
+    let next_fits = next-fits passed fits (omega (arith, ints, near)) in
     rw (to_z-of_z w64 passed fits, to_z-of_z w64 (passed +ℤ pos 1) next_fits)
     (ahead-falls _ (passed +ℤ pos 1) (omega (arith, ints, ahead)) (omega (arith, ints, near, value)))

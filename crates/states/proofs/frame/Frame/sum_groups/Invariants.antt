@@ -1,0 +1,10 @@
+use Rattle.std.proofs.Common.{◌≡◌}
+use Rattle.states.specs.Frames.{frame_facts, SameRoom}
+use Rattle.states.proofs.frame.Frame.sum_groups.Given as goal
+
+abbrev pub invariant-loop-i : goal.invariant-loop-i
+invariant-loop-i l = record {
+  facts : frame_facts l.self ≡ frame_facts l.fn.self;
+  room : SameRoom l.fn.self l.self;
+  blocks : l.self.by_block ≡ l.fn.self.by_block;
+}
