@@ -417,6 +417,13 @@ def to_loops_behind_writes(words=2_100):
     return compared(known, wanted, test=f"ldc {SAME}, stl 3, ldc 0", changes=changes)
 
 
+def to_loops_behind_first_writes():
+    """The same, where each word is first written before a jump of its own, for as many as the code has room for."""
+    every = range(FRAME_LO, FRAME_HI)
+    known, wanted = same_constants(FRAME_LO, FRAME_HI, FRAME_HI - FRAME_LO), same_loops(every[::2])
+    return compared_in_turns(known, wanted, 1, *(f"ldc {SAME}, stl {word}" for word in every))
+
+
 def to_loops_behind_store():
     """The same, once a store went through a pointer to any word."""
     rows = same_constants_behind_pointer()
