@@ -297,6 +297,21 @@ def to_labels_in_turns(ends=256, before=""):
     return compared_in_turns(rows, wanted, ends, f"{before}, {writes}" if before else writes)
 
 
+def to_labels_of_eight_entries(ends=225, entries=8):
+    """To labels with eight entries for each block, over and over: after a store to any word and then a word of each
+    block."""
+    part = BLOCK // entries
+    blocks = [word for word in range(FRAME_LO + BLOCK, FRAME_HI - BLOCK, BLOCK) if abs(word) > BLOCK]
+
+    def parts(*ranges):
+        words = [word for block in blocks for word in range(block, block + BLOCK, part)]
+        return [number_entry(word, part, *ranges[number % 2]) for number, word in enumerate(words)]
+
+    rows = after([pointer_to(range(2, FRAME_HI)), *parts((0, 9), (100, 110))])
+    wanted = parts((0, 50), (5, 200))
+    return compared_in_turns(rows, wanted, ends, f"ldc 50, ldl 1, stnl 0, {written(blocks)}")
+
+
 def to_labels_behind_stores(ends=256):
     """The same, where a store through a pointer to any word comes before each of these."""
     return to_labels_in_turns(ends, THROUGH_POINTER)
