@@ -297,6 +297,21 @@ def to_labels_in_turns(ends=256, before=""):
     return compared_in_turns(rows, wanted, ends, f"{before}, {writes}" if before else writes)
 
 
+def to_new_labels_of_addresses(ends=7_500, entries=90, writes=10):
+    """To 7,500 labels with entries about some blocks each, whose words are addresses, once ten words of each block are
+    written. What is known of addresses is not summed."""
+    blocks = [word for word in range(FRAME_LO + BLOCK, FRAME_HI - BLOCK, BLOCK) if abs(word) > BLOCK]
+    count = len(blocks) // entries
+    groups = [blocks[first : first + count] for first in range(0, count * entries, count)]
+    groups = [group for group in groups if (group[0] < 0) == (group[-1] < 0)]
+
+    def addresses(words):
+        return [pointer_entry(group[0], 0, 4 * words, 4, span=group[-1] + BLOCK - group[0]) for group in groups]
+
+    changes = ", ".join(f"ldlp 1, stl {word + 6 * number}" for word in blocks for number in range(writes))
+    return compared_with_each(addresses(8), addresses(16), 1, ends, changes)
+
+
 def to_labels_of_eight_entries(ends=225, entries=8):
     """To labels with eight entries for each block, over and over: after a store to any word and then a word of each
     block."""
