@@ -1,7 +1,7 @@
 -- What is known of words together, and of each of them.
 use Rattle.std.proofs.Common.{◌≡◌, ℕ, zero, suc, ◌<◌, ℤ, pos, ◌+ℤ◌, ◌≤ℤ◌, ◌<ℤ◌, Bool, true, ◌&&◌}
 use Rattle.std.proofs.Common.{List, [], ◌∷◌, ◌++◌, length, get_or, drop, None, refl, sym, ap, ◌∙◌, subst, arith, ◌⊎◌}
-use Rattle.std.proofs.Common.{inl, inr}
+use Rattle.std.proofs.Common.{inl, inr, ◌-ℤ◌, nat_abs}
 use Rattle.std.specs.Int.{int_min, int_max}
 use Rattle.std.proofs.lemmas.Bool.{cases_lt, and_parts, and_from}
 use Rattle.std.proofs.lemmas.Int.{ints, clamps}
@@ -21,6 +21,7 @@ use Rattle.states.specs.Blocks.{block_words}
 use Rattle.states.specs.Implied.{IsImplied, AllImplied, BlockImplied, WantsOnlyWithin}
 use Rattle.states.specs.Rows.{rise_from, AreApart}
 use Rattle.states.specs.Spans.{with_plain, together}
+use Rattle.states.proofs.FrameFacts.{distance}
 use Rattle.states.proofs.RowFacts.{before, within, behind, lies, about-before}
 use Rattle.states.proofs.RowFacts.{rise-parts, about-behind, entry_fact-before, entry_fact-within, entry_fact-drop}
 
@@ -80,6 +81,19 @@ together-implies facts first (suc more) j wanted numbers h l =
           let same : j ≡ more = omega arith in
           ap (λ (i : ℕ). implies (by_itself (facts (first +ℤ pos i))) wanted) same ∙ both.0
     ]
+
+-- so of words up to an end
+pub together-each : (facts : Facts) (first end : ℤ) (count : ℕ) (t : Together) (wanted : Fact) (said : Bool)
+    → t ≡ together facts first count → end ≡ first +ℤ pos count
+    → said ≡ (t.are_numbers && implies (Number t.lo t.hi) wanted) → said ≡ true
+    → (k : ℤ) → first ≤ℤ k → k <ℤ end → implies (by_itself (facts k)) wanted ≡ true
+together-each facts first end count t wanted said is end_is said_is holds = λ k low high.
+    let both = and_parts t.are_numbers (implies (Number t.lo t.hi) wanted) (sym said_is ∙ holds) in
+    let j = nat_abs (k -ℤ first) in
+    let far = distance k first j low refl in
+    ap (λ (i : ℤ). implies (by_itself (facts i)) wanted) far
+    ∙ together-implies facts first count j wanted (ap (λ (u : Together). u.are_numbers) (sym is) ∙ both.0)
+    (ap (λ (u : Together). implies (Number u.lo u.hi) wanted) (sym is) ∙ both.1) (omega (arith, ints, far, high, end_is))
 
 -- a block of which what is known together implies all that is wanted
 pub sum-says : (facts wanted : Facts) (first : ℤ) (t : Together) → t ≡ together facts first block_words

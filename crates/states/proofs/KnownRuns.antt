@@ -31,7 +31,7 @@ use Rattle.states.specs.Spans.{of_none, with_one, together}
 use Rattle.states.proofs.Comparisons.{words_say-each, first-test}
 use Rattle.states.proofs.Entering.{loop-entered}
 use Rattle.states.proofs.FrameFacts.{distance}
-use Rattle.states.proofs.Hulls.{plain-said, together-implies}
+use Rattle.states.proofs.Hulls.{plain-said}
 use Rattle.states.proofs.Leavings.{leaving-inside, together-alike}
 use Rattle.states.proofs.RowFacts.{entry_fact-before, entry_fact-within}
 use Rattle.states.proofs.SaidWords.{index-in}
@@ -136,17 +136,6 @@ plain-words facts entry none each =
     (λ n less. ap (says (facts (entry.word +ℤ pos n))) (plain-said entry.fact (eqb n 0) none)
     ∙ each (entry.word +ℤ pos n) (omega (arith, ints)) (omega (arith, ints, less)))
 
--- what is known together of an entry's words implies what it wants of each
-pub together-words : (facts : Facts) (entry : Entry) (t : Together) → loop_of entry.fact ≡ None
-    → t ≡ together facts entry.word entry.span → t.are_numbers ≡ true
-    → implies (Number t.lo t.hi) entry.fact ≡ true → words_say facts entry entry.span ≡ true
-together-words facts entry t none is numbers implied =
-    words_say-each facts entry entry.span
-    (λ n less. ap (says (facts (entry.word +ℤ pos n))) (plain-said entry.fact (eqb n 0) none)
-    ∙ together-implies facts entry.word entry.span n entry.fact
-    (ap (λ (u : Together). u.are_numbers) (sym is) ∙ numbers)
-    (ap (λ (u : Together). implies (Number u.lo u.hi) entry.fact) (sym is) ∙ implied) less)
-
 -- no loop is half known, and nothing is paid, where none is wanted
 plain-whole : (facts : Facts) (entry : Entry) (fact : Fact) → entry.fact ≡ fact → loop_of fact ≡ None
     → (is_whole facts entry ≡ true) × (price facts entry ≡ 0)
@@ -227,3 +216,29 @@ passed-more facts row rest entry later paid cost sum passed is holds sum_is =
       whole = passed.whole ∙ whole;
       due = omega (arith, before, due, sum_is);
     }
+
+-- ---- words of a block of which some were written
+
+-- how a block was left says as much of what was written to a word as of what is left of it
+pub left-says : (left : Option Leaving) (fact wanted : Fact)
+    → says (fact_left_by left (Alone fact)) (Alone wanted) ≡ implies (left_fact left fact) wanted
+left-says left fact wanted = ap (λ (f : WordFact). says f (Alone wanted)) (fact-left left fact)
+
+-- a word to which this was written, or nothing
+pub mixed-word : (lo k : ℤ) (row : List Entry) (written : List Written) (blocks : List Block) (left : Option Leaving)
+    (o : Option Fact) (wanted : Fact) → leaving_at blocks (k -ℤ lo) ≡ left → o ≡ fact_of_index written (k -ℤ lo)
+    → says (fact_left_by left (unwrap_or (option_map Alone o) (entry_fact row k))) (Alone wanted) ≡ true
+    → says (facts_left lo blocks (facts_over lo row written) k) (Alone wanted) ≡ true
+unfolding facts_left
+mixed-word lo k row written blocks left o wanted left_is is said =
+    ap (λ (l : Option Leaving). says (fact_left_by l (facts_over lo row written k)) (Alone wanted)) left_is
+    ∙ (ap (λ (f : Option Fact). says (fact_left_by left (unwrap_or (option_map Alone f) (entry_fact row k)))
+    (Alone wanted)) (sym is) ∙ said)
+
+-- how the block of some of its words was left
+pub left-over : (lo word end : ℤ) (blocks : List Block) (number : ℕ) (left : Option Leaving)
+    → first_of lo number ≤ℤ word → end ≤ℤ (first_of lo number +ℤ pos block_words)
+    → left ≡ (block_numbered blocks number).left
+    → (k : ℤ) → word ≤ℤ k → k <ℤ end → leaving_at blocks (k -ℤ lo) ≡ left
+left-over lo word end blocks number left begun ends is = λ k low high.
+    left-there lo k blocks number (omega (arith, ints, begun, low)) (omega (arith, ints, ends, high)) ∙ sym is

@@ -20,7 +20,6 @@ use Rattle.module_format.specs.declared.fact.Fact.TheVariants.{Unknown, Number, 
 use Rattle.module_format.specs.declared.fact.Fact.TheVariants.{ReturnAddress}
 use Rattle.states.specs.declared.known.WordFact.{WordFact}
 use Rattle.states.specs.declared.known.WordFact.TheVariants.{Alone}
-use Rattle.states.specs.declared.remembered.Became.{Became}
 use Rattle.states.specs.declared.remembered.Changes.{Changes}
 use Rattle.states.specs.declared.remembered.Compared.{Compared}
 use Rattle.states.specs.declared.remembered.Remembered.{Remembered}
@@ -39,12 +38,10 @@ use Rattle.states.specs.Comparing.{SaysAll, BlockSaysAll, stands}
 use Rattle.states.specs.Frames.{with_alone, with_span}
 use Rattle.states.specs.Remembered.{compared_at, time_of, index_time, word_time, HasTimes}
 use Rattle.states.specs.Remembered.{are_loops_of_two, whole_by, due_by, AreDueSince}
-use Rattle.states.specs.Remembered.{wants_no_loop, IsPaid, ChangedSay, allows, index_written}
-use Rattle.states.specs.Remembered.{word_written, no_changes, changes_of, since_at, since_in, leaving_since}
-use Rattle.states.specs.Remembered.{leaving_of_index}
-use Rattle.states.specs.Remembered.{range_in, became_until}
-use Rattle.states.specs.Remembering.{IsRemembered, AreFixed, AreAged, AreRemembered, IsChanged, IsPlaced, IsLeftSo}
-use Rattle.states.specs.Remembering.{IsRenewed, IsPut, IsCopy, was_changed, was_alone}
+use Rattle.states.specs.Remembered.{wants_no_loop, IsPaid, ChangedSay, allows, changes_of, written_at, written_in}
+use Rattle.states.specs.Remembered.{leaving_since, leaving_of_index, range_in}
+use Rattle.states.specs.Remembering.{IsRemembered, AreAged, AreRemembered, IsChanged, IsPlaced, IsLeftSo}
+use Rattle.states.specs.Remembering.{IsPut, IsCopy, was_changed, was_alone}
 use Rattle.states.specs.Rows.{AreApart}
 use Rattle.states.proofs.BlockSums.{number-of}
 use Rattle.states.proofs.Comparisons.{entries_hold-says, says-unknown}
@@ -61,13 +58,14 @@ use Rattle.states.proofs.Widenings.{widened-in}
 abbrev pub AreSame : (ℤ → ℕ) → (ℤ → ℕ) → Facts → Facts → ℕ → Type 0
 AreSame times later facts others time = (k : ℤ) → later k ≤ time → (others k ≡ facts k) × (times k ≤ time)
 
--- where what is wanted of a word that was not written since a time is allowed, it was before, and is known if it was
+-- where what is wanted of a word of whose block none was written since a time is allowed, it was before, and is known if
+-- it was
 abbrev pub StayHeld : ℤ → Remembered → Remembered → Facts → Facts → ℕ → Type 0
 StayHeld lo old new facts others time =
-    (k : ℤ) (wanted : WordFact) → word_written lo new.words.items k ≤ time → since_in lo new.by_block.items k ≤ time
-    → allows (range_in new.began lo new.by_block.items k) wanted ≡ true
-    → (word_written lo old.words.items k ≤ time) × (since_in lo old.by_block.items k ≤ time)
-    × (allows (range_in old.began lo old.by_block.items k) wanted ≡ true)
+    (k : ℤ) (wanted : WordFact) → written_in lo new.by_block.items k ≤ time
+    → allows (range_in new.began lo new.times.items new.by_block.items k) wanted ≡ true
+    → (written_in lo old.by_block.items k ≤ time)
+    × (allows (range_in old.began lo old.times.items old.by_block.items k) wanted ≡ true)
     × (says (facts k) wanted ≡ true → says (others k) wanted ≡ true)
 
 -- a comparison is remembered where words are changed later
@@ -83,9 +81,9 @@ remembered-still said lo old new facts others entries c same held alike before =
       knows = λ k l.
           let at = same k l in
           ap (λ (f : WordFact). says f (entry_fact entries k)) at.0 ∙ before.knows k at.1;
-      held = λ k l m allowing.
-          let at = held k (entry_fact entries k) l m allowing in
-          at.3 (before.held k at.0 at.1 at.2);
+      held = λ k l allowing.
+          let at = held k (entry_fact entries k) l allowing in
+          at.2 (before.held k at.0 at.1);
       pairs = before.pairs;
       whole = ap (λ (a : ℤ → Bool). list_all (whole_by a) entries) alone ∙ before.whole;
       due = ap (λ (a : ℤ → Bool). sum_by (due_by a) entries) alone ∙ before.due;
@@ -125,32 +123,6 @@ block-index words times number i below within timed =
     let more : suc number * block_words ≤ times * block_words = mul-le-mul_right block_words below in
     omega (arith, few, more)
 
-div-below : (n count : ℕ) → n < count → n / block_words < count / block_words + 1
-div-below n count l = elim (cases_lt (count / block_words) (n / block_words)) [
-  | inl below ↦
-      let both = div-add-mod' n block_words in
-      let whole = div-add-mod' count block_words in
-      let rest : count % block_words < block_words = mod-lt count some-words in
-      let more : suc (count / block_words) * block_words ≤ (n / block_words) * block_words =
-      mul-le-mul_right block_words below in
-      absurd (omega (arith, both, whole, rest, more, l))
-  | inr h ↦ omega (arith, h)
-]
-
--- where time begins, no word was written later than its block
-pub first-placed : (count : ℕ) (words : List ℕ) (blocks : List Changes) → length words ≡ count
-    → ((n : ℕ) → time_of words n ≤ 1) → ((n : ℕ) → n < count / block_words + 1 → 1 ≤ (changes_of blocks n).written)
-    → (n : ℕ) → time_of words n ≤ (changes_of blocks (n / block_words)).written
-first-placed count words blocks len early some n = elim (cases_lt n count) [
-  | inl l ↦
-      let first = early n in
-      let block = some (n / block_words) (div-below n count l) in
-      omega (arith, first, block)
-  | inr h ↦
-      let none = get_or_past words n 0 (omega (arith, len, h)) in
-      omega (arith, none)
-]
-
 -- what holds of each item of a list, once one of them is set
 pub set-all : {A : Type 0} (P : ℕ → A → Type 0) (xs : List A) (i : ℕ) (v d : A) → i < length xs
     → ((n : ℕ) → P n (get_or xs n d)) → P i v → (n : ℕ) → P n (get_or (set xs i v) n d)
@@ -160,49 +132,12 @@ set-all P xs i v d low all here n = elim (cases_eq n i) [
   | inr other ↦ subst (P n) (sym (get_or-set_other xs i n v d other)) (all n)
 ]
 
--- once a word is written, no word was later than its block
-pub placed-more : (words : List ℕ) (blocks : List Changes) (index number time : ℕ) (block : Changes)
-    → index < length words → number < length blocks → number ≡ index / block_words → block.written ≡ time
-    → ((n : ℕ) → time_of words n ≤ (changes_of blocks (n / block_words)).written)
-    → ((n : ℕ) → (changes_of blocks n).written ≤ time)
-    → (n : ℕ) → time_of (set words index time) n ≤ (changes_of (set blocks number block) (n / block_words)).written
-placed-more words blocks index number time block low below number_is block_is placed recent n =
-    elim (cases_eq (n / block_words) number) [
-      | inl e ↦
-          let here : changes_of (set blocks number block) (n / block_words) ≡ block =
-          ap (changes_of (set blocks number block)) e ∙ get_or-set_same blocks number block no_changes below in
-          let now = ap (λ (c : Changes). c.written) here in
-          elim (cases_eq n index) [
-            | inl s ↦
-                let at = ap (time_of (set words index time)) s ∙ get_or-set_same words index time 0 low in
-                omega (arith, at, now, block_is)
-            | inr d ↦
-                let at = get_or-set_other words index n time 0 d in
-                let before = placed n in
-                let late = recent (n / block_words) in
-                omega (arith, at, before, late, now, block_is)
-          ]
-      | inr d ↦
-          let here = get_or-set_other blocks number (n / block_words) block no_changes d in
-          let kept = ap (λ (c : Changes). c.written) here in
-          let at = get_or-set_other words index n time 0
-          (λ s. d (ap (λ (i : ℕ). i / block_words) s ∙ sym number_is)) in
-          let before = placed n in
-          omega (arith, at, before, kept)
-    ]
-
 -- ---- all comparisons
 
 pub remembered-same : (said facts others : Facts) (lo : ℤ) (r : Remembered) → others ≡ facts
     → AreRemembered said facts lo r → AreRemembered said others lo r
 remembered-same said facts others lo r same old =
     subst (λ (f : Facts). AreRemembered said f lo r) (sym same) old
-
--- nothing became one fact since the state became that of a label
-unfixed : (facts : Facts) (lo : ℤ) (r : Remembered) → r.time ≤ r.began → AreFixed facts lo r
-unfixed facts lo r now = λ k n at late early.
-    let past = r.became (n / block_words) in
-    absurd (omega (arith, past, late, now))
 
 -- none is of the label that the state goes on from, and what that label says is known
 pub remembered-none : (said facts : Facts) (lo : ℤ) (r : Remembered) → facts ≡ said
@@ -215,7 +150,6 @@ remembered-none said facts lo r is none now firsts lefts = (
       let before = none at in
       absurd (omega (arith, before, later)),
   λ k some early. ap (λ (f : Facts). f k) is,
-  unfixed facts lo r now,
   none-aged said facts lo r is firsts lefts,
 )
 
@@ -233,11 +167,10 @@ away lo k n number at d i e =
 pub remembered-changed : (said facts others : Facts) (lo : ℤ) (number : ℕ) (old new : Remembered)
     → IsChanged number old new → AreOutside lo number facts others
     → ((time : ℕ) → time < time_of new.times.items number → StayHeld lo old new facts others time)
-    → (AreFixed facts lo old → AreFixed others lo new)
     → AreChangedAlike lo old new → (AreAged said facts lo old → AreAged said others lo new)
     → AreRemembered said facts lo old → AreRemembered said others lo new
 unfolding AreRemembered
-remembered-changed said facts others lo number old new change far held fixed alike aged remembered = (
+remembered-changed said facts others lo number old new change far held alike aged remembered = (
   λ at t found later.
       elim (change.kept.each at) [
         | inl same ↦
@@ -260,8 +193,7 @@ remembered-changed said facts others lo number old new change far held fixed ali
   λ k some early.
       let before = fresh k (k -ℤ lo) refl some early in
       before.2 ∙ remembered.1 k before.0 before.1,
-  fixed remembered.2,
-  aged remembered.3,
+  aged remembered.2,
 )
   where
     on : (time : ℕ) (k z : ℤ) → k -ℤ lo ≡ z → time < time_of new.times.items number
@@ -323,316 +255,119 @@ outside-block lo number leaving facts others is = record {
   ];
 }
 
--- ---- how blocks that became one fact change
-
--- the words that were not written are what they were, and so is what their block became
-fixed-kept : (lo : ℤ) (old new : Remembered) (facts others : Facts) (k : ℤ) (n : ℕ) → k -ℤ lo ≡ pos n
-    → new.began ≡ old.began → time_of new.words.items n ≡ time_of old.words.items n
-    → (changes_of new.by_block.items (n / block_words)).became
-    ≡ (changes_of old.by_block.items (n / block_words)).became
-    → others k ≡ facts k → AreFixed facts lo old
-    → new.began < (changes_of new.by_block.items (n / block_words)).became.time
-    → time_of new.words.items n < (changes_of new.by_block.items (n / block_words)).became.time
-    → others k ≡ Alone (changes_of new.by_block.items (n / block_words)).became.fact
-fixed-kept lo old new facts others k n at began words became same fixed late early =
-    let time = ap (λ (b : Became). b.time) became in
-    same ∙ (fixed k n at (omega (arith, began, time, late)) (omega (arith, words, time, early))
-    ∙ ap (λ (b : Became). Alone b.fact) (sym became))
-
--- a word is written
-pub placed-fixed : (lo word : ℤ) (index number : ℕ) (fact : Fact) (facts others : Facts) (old new : Remembered)
-    → IsPlaced index number old new → others ≡ with_alone word fact facts → word ≡ lo +ℤ pos index
-    → AreFixed facts lo old → AreFixed others lo new
-placed-fixed lo word index number fact facts others old new placed is at fixed = λ k n here late early.
-    elim (cases_eq n index) [
-      | inl e ↦
-          let now = ap (time_of new.words.items) e in
-          let all = placed.now (n / block_words) in
-          absurd (omega (arith, now, all, early))
-      | inr d ↦
-          let same : others k ≡ facts k = elim (word-cases k word) [
-            | inl same ↦
-                let equal = same.0 in
-                absurd (d (omega (arith, ints, equal, at, here)))
-            | inr other ↦
-                ap (λ (f : Facts). f k) is ∙ ap (λ (b : Bool). cond b (Alone fact) (facts k)) other
-          ] in
-          fixed-kept lo old new facts others k n here placed.changed.began (placed.words n d)
-          (placed.became (n / block_words)) same fixed late early
-    ]
-
--- what is left of a word that is known to be what its block became, or that becomes one fact
-left-fact : (leaving : Leaving) (fact : WordFact) (said : Fact)
-    → (is_widening leaving ≡ true → fact ≡ Alone said) → left_of leaving (by_itself fact) ≡ left_of leaving said
-left-fact (Become fact) word said is = refl
-left-fact (Widen lo hi) word said is = ap (λ (f : WordFact). left_of (Widen lo hi) (by_itself f)) (is refl)
-
--- a block is left
-pub left-fixed : (lo : ℤ) (number : ℕ) (leaving : Leaving) (facts others : Facts) (old new : Remembered)
-    → IsLeftSo number leaving old new → others ≡ with_span (first_of lo number) block_words leaving facts
-    → AreFixed facts lo old → AreFixed others lo new
-left-fixed lo number leaving facts others old new left is fixed = λ k n here late early.
-    elim (cases_eq (n / block_words) number) [
-      | inl e ↦ elim (in-block lo number k) [
-        | inside j less at in_it ↦
-            let new_is = ap (changes_of new.by_block.items) e in
-            let old_is = ap (changes_of old.by_block.items) e in
-            let new_time = ap (λ (c : Changes). c.became.time) new_is in
-            let old_time = ap (λ (c : Changes). c.became.time) old_is in
-            let words = ap (λ (ws : List ℕ). time_of ws n) left.words in
-            let began = left.changed.began in
-            let before : is_widening leaving ≡ true
-            → facts k ≡ Alone (changes_of old.by_block.items number).became.fact = λ w.
-            let time = left.time w in
-            fixed k n here (omega (arith, new_time, old_time, began, time, late))
-            (omega (arith, new_time, old_time, words, time, early))
-            ∙ ap (λ (c : Changes). Alone c.became.fact) old_is in
-            ap (λ (f : Facts). f k) is
-            ∙ (ap (λ (b : Bool). cond b (Alone (left_of leaving (by_itself (facts k)))) (facts k)) in_it
-            ∙ (ap (λ (f : Fact). Alone f)
-            (left-fact leaving (facts k) (changes_of old.by_block.items number).became.fact before ∙ sym left.fact)
-            ∙ ap (λ (c : Changes). Alone c.became.fact) (sym new_is)))
-        | outside out far ↦ absurd (far n here e)
-      ]
-      | inr d ↦
-          fixed-kept lo old new facts others k n here left.changed.began
-          (ap (λ (ws : List ℕ). time_of ws n) left.words)
-          (ap (λ (c : Changes). c.became) (left.others (n / block_words) d))
-          ((outside-block lo number leaving facts others is).same k (away lo k n number here d)) fixed late early
-    ]
-
--- what the words of a block became says what an entry wants of one that was not written since
-became-implies : (began : ℕ) (became : Became) (wanted : Fact) (written : ℕ)
-    → written < became_until began became wanted
-    → (began < became.time) × ((written < became.time) × (implies became.fact wanted ≡ true))
-became-implies began became wanted written l =
-    on (nat_lt began became.time) (implies became.fact wanted) refl refl l
-  where
-    on : (a b : Bool) → nat_lt began became.time ≡ a → implies became.fact wanted ≡ b
-        → written < (if a && b then became.time else 0)
-        → (began < became.time) × ((written < became.time) × (implies became.fact wanted ≡ true))
-    on true true a b l = (grind (arith, nat_tests), (l, b))
-    on true false a b l = absurd (omega arith)
-    on false true a b l = absurd (omega arith)
-    on false false a b l = absurd (omega arith)
-
-alone-says : (fact wanted : Fact) (is_first : Bool) → implies fact wanted ≡ true
-    → says (Alone fact) (said_of wanted is_first) ≡ true
-alone-says fact Unknown is_first h = h
-alone-says fact (Number lo hi) is_first h = h
-alone-says fact (Pointer region lo hi step) is_first h = h
-alone-says fact (CodeAddress offset) is_first h = h
-alone-says fact ReturnAddress is_first h = h
-alone-says Unknown (Loop base count weight) is_first h = absurd (cc)
-alone-says (Number low high) (Loop base count weight) is_first h = absurd (cc)
-alone-says (Pointer region low high step) (Loop base count weight) is_first h = absurd (cc)
-alone-says (CodeAddress offset) (Loop base count weight) is_first h = absurd (cc)
-alone-says ReturnAddress (Loop base count weight) is_first h = absurd (cc)
-alone-says (Loop b c w) (Loop base count weight) is_first h = absurd (cc)
-
-pub fixed-says : (said facts : Facts) (lo : ℤ) (r : Remembered) (became : Became) (number : ℕ)
-    → became ≡ (changes_of r.by_block.items number).became → AreRemembered said facts lo r
-    → (k : ℤ) (n : ℕ) → k -ℤ lo ≡ pos n → n / block_words ≡ number → (wanted : Fact) (is_first : Bool)
-    → word_written lo r.words.items k < became_until r.began became wanted
-    → says (facts k) (said_of wanted is_first) ≡ true
-unfolding AreRemembered
-fixed-says said facts lo r became number is remembered k n at here wanted is_first l =
-    let both = became-implies r.began became wanted (word_written lo r.words.items k) l in
-    let late = both.0 in
-    let early = both.1.0 in
-    let same : became ≡ (changes_of r.by_block.items (n / block_words)).became =
-    is ∙ ap (λ (i : ℕ). (changes_of r.by_block.items i).became) (sym here) in
-    let time = ap (λ (b : Became). b.time) same in
-    let word = ap (index_written r.words.items) at in
-    let fact = remembered.2 k n at (omega (arith, time, late)) (omega (arith, time, word, early)) in
-    ap (λ (f : WordFact). says f (said_of wanted is_first))
-    (fact ∙ ap (λ (b : Became). Alone b.fact) (sym same))
-    ∙ alone-says became.fact wanted is_first both.1.1
-
--- ---- how what is kept of words that were not written changes
+-- ---- how what is kept of blocks of which no word was written changes
 
 -- a block was left as before
-range-same : (began began' : ℕ) (c c' : Changes) → began ≡ began' → c.since ≡ c'.since → c.left ≡ c'.left
-    → leaving_since began c ≡ leaving_since began' c'
-range-same began began' c c' b since left =
-    ap (λ (n : ℕ). if nat_lt c.since n then None else c.left) b
-    ∙ (ap (λ (n : ℕ). if nat_lt n began' then None else c.left) since
-    ∙ ap (λ (o : Option Leaving). if nat_lt c'.since began' then None else o) left)
+range-same : (began began' time time' : ℕ) (c c' : Changes) → began ≡ began' → time ≡ time' → c ≡ c'
+    → leaving_since began time c ≡ leaving_since began' time' c'
+range-same began began' time time' c c' b t same =
+    ap (λ (n : ℕ). leaving_since n time c) b
+    ∙ (ap (λ (n : ℕ). leaving_since began' n c) t ∙ ap (leaving_since began' time') same)
+
+-- the words of another block
+far-held : (lo : ℤ) (number : ℕ) (facts others : Facts) (old new : Remembered) → IsChanged number old new
+    → ((n : ℕ) → n ≢ number → changes_of new.by_block.items n ≡ changes_of old.by_block.items n)
+    → AreOutside lo number facts others → (time : ℕ) (k : ℤ) (n : ℕ) (wanted : WordFact) → k -ℤ lo ≡ pos n
+    → n / block_words ≢ number → (changes_of new.by_block.items (n / block_words)).written ≤ time
+    → allows (leaving_since new.began (time_of new.times.items (n / block_words))
+    (changes_of new.by_block.items (n / block_words))) wanted ≡ true
+    → ((changes_of old.by_block.items (n / block_words)).written ≤ time)
+    × (allows (leaving_since old.began (time_of old.times.items (n / block_words))
+    (changes_of old.by_block.items (n / block_words))) wanted ≡ true)
+    × (says (facts k) wanted ≡ true → says (others k) wanted ≡ true)
+far-held lo number facts others old new change kept far time k n wanted here d l allowing =
+    let same = kept (n / block_words) d in
+    let written = ap (λ (c : Changes). c.written) same in
+    let range = range-same new.began old.began (time_of new.times.items (n / block_words))
+    (time_of old.times.items (n / block_words)) (changes_of new.by_block.items (n / block_words))
+    (changes_of old.by_block.items (n / block_words)) change.began (change.others (n / block_words) d) same in (
+      omega (arith, written, l),
+      ap (λ (o : Option Leaving). allows o wanted) (sym range) ∙ allowing,
+      λ h. ap (λ (f : WordFact). says f wanted) (far.same k (away lo k n number here d)) ∙ h,
+    )
+
+-- a word that is none of a block's
+none-held : (lo : ℤ) (number : ℕ) (facts others : Facts) → AreOutside lo number facts others → (time : ℕ) (k : ℤ)
+    (n : ℕ) (wanted : WordFact) → k -ℤ lo ≡ negsuc n
+    → (0 ≤ time) × (true ≡ true) × (says (facts k) wanted ≡ true → says (others k) wanted ≡ true)
+none-held lo number facts others far time k n wanted here = (
+  omega arith,
+  refl,
+  λ h. ap (λ (f : WordFact). says f wanted) (far.same k (λ i e. absurd (omega (arith, ints, here, e)))) ∙ h,
+)
 
 -- a word is written
-pub placed-held : (lo word : ℤ) (index number : ℕ) (fact : Fact) (facts others : Facts) (old new : Remembered)
-    → IsPlaced index number old new → others ≡ with_alone word fact facts → word ≡ lo +ℤ pos index
+pub placed-held : (lo : ℤ) (index number : ℕ) (facts others : Facts) (old new : Remembered)
+    → IsPlaced index number old new → AreOutside lo number facts others
     → (time : ℕ) → time < time_of new.times.items number → StayHeld lo old new facts others time
-placed-held lo word index number fact facts others old new placed is at time later =
-    λ k wanted l m allowing. on k (k -ℤ lo) wanted refl l m allowing
+placed-held lo index number facts others old new placed far time later =
+    λ k wanted l allowing. on k (k -ℤ lo) wanted refl l allowing
   where
-    same-fact : (k : ℤ) (wanted : WordFact) → k ≢ word → says (facts k) wanted ≡ true → says (others k) wanted ≡ true
-    same-fact k wanted apart h = elim (word-cases k word) [
-      | inl same ↦ absurd (apart same.1)
-      | inr other ↦
-          ap (λ (f : WordFact). says f wanted)
-          (ap (λ (f : Facts). f k) is ∙ ap (λ (b : Bool). cond b (Alone fact) (facts k)) other)
-          ∙ h
-    ]
-
-    on : (k z : ℤ) (wanted : WordFact) → k -ℤ lo ≡ z → index_written new.words.items z ≤ time
-        → since_at new.by_block.items z ≤ time → allows (leaving_of_index new.began new.by_block.items z) wanted ≡ true
-        → (index_written old.words.items z ≤ time) × (since_at old.by_block.items z ≤ time)
-        × (allows (leaving_of_index old.began old.by_block.items z) wanted ≡ true)
+    on : (k z : ℤ) (wanted : WordFact) → k -ℤ lo ≡ z → written_at new.by_block.items z ≤ time
+        → allows (leaving_of_index new.began new.times.items new.by_block.items z) wanted ≡ true
+        → (written_at old.by_block.items z ≤ time)
+        × (allows (leaving_of_index old.began old.times.items old.by_block.items z) wanted ≡ true)
         × (says (facts k) wanted ≡ true → says (others k) wanted ≡ true)
-    on k (pos n) wanted here l m allowing = elim (cases_eq n index) [
+    on k (pos n) wanted here l allowing = elim (cases_eq (n / block_words) number) [
       | inl e ↦
-          let now = ap (time_of new.words.items) e in
+          let now = ap (λ (i : ℕ). (changes_of new.by_block.items i).written) e in
           let set = placed.here in
           absurd (omega (arith, now, set, later, l))
       | inr d ↦
-          let kept = placed.words n d in
-          let since = placed.since (n / block_words) in
-          let range : leaving_since new.began (changes_of new.by_block.items (n / block_words))
-          ≡ leaving_since old.began (changes_of old.by_block.items (n / block_words)) =
-          range-same new.began old.began (changes_of new.by_block.items (n / block_words))
-          (changes_of old.by_block.items (n / block_words)) placed.changed.began since
-          (placed.left (n / block_words)) in (
-            omega (arith, kept, l),
-            omega (arith, since, m),
-            ap (λ (o : Option Leaving). allows o wanted) (sym range) ∙ allowing,
-            same-fact k wanted (λ e. d (omega (arith, ints, e, at, here))),
-          )
+          far-held lo number facts others old new placed.changed placed.others far time k n wanted here d l allowing
     ]
-    on k (negsuc n) wanted here l m allowing = (
-      omega arith,
-      omega arith,
-      refl,
-      same-fact k wanted (λ e. absurd (omega (arith, ints, e, at, here))),
-    )
+    on k (negsuc n) wanted here l allowing = none-held lo number facts others far time k n wanted here
 
 -- a block is left
 pub left-held : (lo : ℤ) (number : ℕ) (leaving : Leaving) (facts others : Facts) (old new : Remembered)
     → IsLeftSo number leaving old new → others ≡ with_span (first_of lo number) block_words leaving facts
     → (time : ℕ) → time < time_of new.times.items number → StayHeld lo old new facts others time
 left-held lo number leaving facts others old new left is time later =
-    λ k wanted l m allowing. on k (k -ℤ lo) wanted refl l m allowing
+    λ k wanted l allowing. on k (k -ℤ lo) wanted refl l allowing
   where
-    far : AreOutside lo number facts others
-    far = outside-block lo number leaving facts others is
-
     within : (w : Bool) → is_widening leaving ≡ w → (k : ℤ) (n : ℕ) (wanted : WordFact) → k -ℤ lo ≡ pos n
-        → n / block_words ≡ number → (changes_of new.by_block.items number).since ≤ time
-        → allows (leaving_since new.began (changes_of new.by_block.items number)) wanted ≡ true
-        → ((changes_of old.by_block.items number).since ≤ time)
-        × (allows (leaving_since old.began (changes_of old.by_block.items number)) wanted ≡ true)
+        → n / block_words ≡ number → (changes_of new.by_block.items number).written ≤ time
+        → allows (leaving_since new.began (time_of new.times.items number) (changes_of new.by_block.items number)) wanted
+        ≡ true
+        → ((changes_of old.by_block.items number).written ≤ time)
+        × (allows (leaving_since old.began (time_of old.times.items number) (changes_of old.by_block.items number)) wanted
+        ≡ true)
         × (says (facts k) wanted ≡ true → says (others k) wanted ≡ true)
-    within false w k n wanted here e m allowing =
+    within false w k n wanted here e l allowing =
         let anew = left.anew w in
-        absurd (omega (arith, anew, later, m))
-    within true w k n wanted here e m allowing =
-        let since = left.since w in
+        absurd (omega (arith, anew, later, l))
+    within true w k n wanted here e l allowing =
+        let written = left.written w in
         let both = widened-in lo number leaving facts others k n
-        (leaving_since old.began (changes_of old.by_block.items number)) wanted is w here e
+        (leaving_since old.began (time_of old.times.items number) (changes_of old.by_block.items number)) wanted is w
+        here e
         (ap (λ (o : Option Leaving). allows o wanted) (sym (left.range w)) ∙ allowing) in
-        (omega (arith, since, m), both.0, both.1)
+        (omega (arith, written, l), both.0, both.1)
 
-    on : (k z : ℤ) (wanted : WordFact) → k -ℤ lo ≡ z → index_written new.words.items z ≤ time
-        → since_at new.by_block.items z ≤ time → allows (leaving_of_index new.began new.by_block.items z) wanted ≡ true
-        → (index_written old.words.items z ≤ time) × (since_at old.by_block.items z ≤ time)
-        × (allows (leaving_of_index old.began old.by_block.items z) wanted ≡ true)
+    on : (k z : ℤ) (wanted : WordFact) → k -ℤ lo ≡ z → written_at new.by_block.items z ≤ time
+        → allows (leaving_of_index new.began new.times.items new.by_block.items z) wanted ≡ true
+        → (written_at old.by_block.items z ≤ time)
+        × (allows (leaving_of_index old.began old.times.items old.by_block.items z) wanted ≡ true)
         × (says (facts k) wanted ≡ true → says (others k) wanted ≡ true)
-    on k (pos n) wanted here l m allowing = elim (cases_eq (n / block_words) number) [
+    on k (pos n) wanted here l allowing = elim (cases_eq (n / block_words) number) [
       | inl e ↦
-          let new_is = ap (changes_of new.by_block.items) e in
-          let old_is = ap (changes_of old.by_block.items) e in
-          let since = ap (λ (c : Changes). c.since) new_is in
-          let before = ap (λ (c : Changes). c.since) old_is in
-          let inner = within (is_widening leaving) refl k n wanted here e (omega (arith, since, m))
-          (ap (λ (c : Changes). allows (leaving_since new.began c) wanted) (sym new_is) ∙ allowing) in
-          let m_old = inner.0 in (
-            subst (λ (ws : List ℕ). time_of ws n ≤ time) left.words l,
-            omega (arith, before, m_old),
-            ap (λ (c : Changes). allows (leaving_since old.began c) wanted) old_is ∙ inner.1,
+          let now = ap (λ (i : ℕ). (changes_of new.by_block.items i).written) e in
+          let before = ap (λ (i : ℕ). (changes_of old.by_block.items i).written) e in
+          let inner = within (is_widening leaving) refl k n wanted here e (omega (arith, now, l))
+          (ap (λ (i : ℕ). allows (leaving_since new.began (time_of new.times.items i) (changes_of new.by_block.items i))
+          wanted) (sym e) ∙ allowing) in
+          let was = inner.0 in (
+            omega (arith, before, was),
+            ap (λ (i : ℕ). allows (leaving_since old.began (time_of old.times.items i)
+                (changes_of old.by_block.items i)) wanted) e ∙ inner.1,
             inner.2,
           )
       | inr d ↦
-          let same = left.others (n / block_words) d in
-          let since = ap (λ (c : Changes). c.since) same in (
-            subst (λ (ws : List ℕ). time_of ws n ≤ time) left.words l,
-            omega (arith, since, m),
-            sym (ap (λ (o : Option Leaving). allows o wanted) (ap (leaving_since new.began) same
-                ∙ ap (λ (b : ℕ). leaving_since b (changes_of old.by_block.items (n / block_words))) left.changed.began))
-                ∙ allowing,
-            λ h. ap (λ (f : WordFact). says f wanted) (far.same k (away lo k n number here d)) ∙ h,
-          )
+          far-held lo number facts others old new left.changed left.others
+          (outside-block lo number leaving facts others is) time k n wanted here d l allowing
     ]
-    on k (negsuc n) wanted here l m allowing = (
-      omega arith,
-      omega arith,
-      refl,
-      λ h. ap (λ (f : WordFact). says f wanted) (far.same k (λ i e. absurd (omega (arith, ints, here, e)))) ∙ h,
-    )
-
--- how a block was left is kept anew
-pub renewed-known : (said : Facts) (lo : ℤ) (number : ℕ) (old new : Remembered) (facts : Facts) (entries : List Entry)
-    (c : Compared)
-    → IsRenewed number old new → IsRemembered said lo old facts entries c → IsRemembered said lo new facts entries c
-renewed-known said lo number old new facts entries c renewed before = record {
-  knows = λ k l. before.knows k (subst (λ (ts : List ℕ). word_time lo ts k ≤ c.time) renewed.times l);
-  held = λ k l m allowing. on k (k -ℤ lo) refl l m allowing;
-  pairs = before.pairs;
-  whole = ap (λ (a : ℤ → Bool). list_all (whole_by a) entries) alone ∙ before.whole;
-  due = ap (λ (a : ℤ → Bool). sum_by (due_by a) entries) alone ∙ before.due;
-  plain = before.plain;
-}
-  where
-    alone : was_alone said lo new c.time ≡ was_alone said lo old c.time
-    alone = alone-same said lo old new c.time
-        (changed-same lo old new c.time renewed.began renewed.firsts renewed.lefts)
-
-    on : (k z : ℤ) → k -ℤ lo ≡ z → index_written new.words.items z ≤ c.time → since_at new.by_block.items z ≤ c.time
-        → allows (leaving_of_index new.began new.by_block.items z) (entry_fact entries k) ≡ true
-        → says (facts k) (entry_fact entries k) ≡ true
-    on k (pos n) here l m allowing = elim (cases_eq (n / block_words) number) [
-      | inl e ↦
-          let since = ap (λ (i : ℕ). (changes_of new.by_block.items i).since) e in
-          let now = renewed.now in
-          let time = renewed.time in
-          let all = old.changed (n / block_words) in
-          let at = ap (index_time old.times.items) here in
-          before.knows k (omega (arith, since, now, time, all, at, m))
-      | inr d ↦
-          let same = renewed.others (n / block_words) d in
-          let since = ap (λ (c : Changes). c.since) same in
-          let words = ap (λ (ws : List ℕ). time_of ws n) renewed.words in
-          let written = ap (index_written old.words.items) here in
-          let was = ap (since_at old.by_block.items) here in
-          before.held k (omega (arith, words, written, l)) (omega (arith, since, was, m))
-          (ap (λ (z : ℤ). allows (leaving_of_index old.began old.by_block.items z) (entry_fact entries k)) here
-          ∙ (sym (ap (λ (o : Option Leaving). allows o (entry_fact entries k)) (ap (leaving_since new.began) same
-          ∙ ap (λ (b : ℕ). leaving_since b (changes_of old.by_block.items (n / block_words))) renewed.began))
-          ∙ allowing))
-    ]
-    on k (negsuc n) here l m allowing =
-        let at = ap (index_time old.times.items) here in
-        before.knows k (omega (arith, at))
-
-pub remembered-renewed : (said facts : Facts) (lo : ℤ) (number : ℕ) (old new : Remembered) → IsRenewed number old new
-    → AreRemembered said facts lo old → AreRemembered said facts lo new
-unfolding AreRemembered
-remembered-renewed said facts lo number old new renewed before = (
-  λ at t found later.
-      let same = ap (λ (cs : List Compared). compared_at cs at) renewed.compared in
-      let time = ap (λ (c : Compared). c.time) same in
-      let began = renewed.began in
-      subst (λ (c : Compared). IsRemembered said lo new facts t.entries c) (sym same)
-      (renewed-known said lo number old new facts t.entries (compared_at old.compared.items at) renewed
-      (before.0 at t (ap (λ (m : Contents). label_at m at) (sym renewed.same) ∙ found)
-      (omega (arith, time, began, later)))),
-  λ k some early.
-      let time = ap (λ (ts : List ℕ). word_time lo ts k) renewed.times in
-      let began = renewed.began in
-      before.1 k (omega (arith, time, some)) (omega (arith, time, began, early)),
-  λ k n here. fixed-kept lo old new facts facts k n here renewed.began
-      (ap (λ (ws : List ℕ). time_of ws n) renewed.words) (renewed.became (n / block_words)) refl before.2,
-  aged-same said facts facts lo old new refl renewed.time renewed.began renewed.firsts renewed.lefts before.3,
-)
+    on k (negsuc n) wanted here l allowing =
+        none-held lo number facts others (outside-block lo number leaving facts others is) time k n wanted here
 
 -- a comparison more
 pub remembered-put : (said facts : Facts) (lo : ℤ) (old new : Remembered) (t : Label) (offset paid : ℕ)
@@ -663,21 +398,18 @@ remembered-put said facts lo old new t offset paid is_plain put label apart due 
       let time = ap (λ (ts : List ℕ). word_time lo ts k) put.times in
       let began = put.began in
       remembered.1 k (omega (arith, time, some)) (omega (arith, time, began, early)),
-  λ k n here. fixed-kept lo old new facts facts k n here put.began
-      (ap (λ (ws : List ℕ). time_of ws n) put.words)
-      (ap (λ (bs : List Changes). (changes_of bs (n / block_words)).became) put.blocks) refl remembered.2,
   aged,
 )
   where
     aged : AreAged said facts lo new
-    aged = aged-same said facts facts lo old new refl put.time put.began put.firsts put.lefts remembered.3
+    aged = aged-same said facts facts lo old new refl put.time put.began put.firsts put.lefts remembered.2
 
     first : IsRemembered said lo new facts t.entries (record { time = new.time; paid = paid; is_plain = is_plain })
     first =
         let both = paid-by facts (was_alone said lo new new.time) t.entries paid apart pairs aged due in
         record {
           knows = λ k l. due.knows k;
-          held = λ k l m allowing. due.knows k;
+          held = λ k l allowing. due.knows k;
           pairs = pairs;
           whole = both.0;
           due = both.1;
@@ -691,12 +423,14 @@ remembered-put said facts lo old new t offset paid is_plain put label apart due 
         (changed-same lo old new c.time put.began put.firsts put.lefts) in
         record {
           knows = λ k l. before.knows k (subst (λ (ts : List ℕ). word_time lo ts k ≤ c.time) put.times l);
-          held = λ k l m allowing. before.held k
-              (subst (λ (ws : List ℕ). word_written lo ws k ≤ c.time) put.words l)
-              (subst (λ (bs : List Changes). since_in lo bs k ≤ c.time) put.blocks m)
-              (subst (λ (b : ℕ). allows (range_in b lo old.by_block.items k) (entry_fact entries k) ≡ true) put.began
-              (subst (λ (bs : List Changes). allows (range_in new.began lo bs k) (entry_fact entries k) ≡ true)
-              put.blocks allowing));
+          held = λ k l allowing. before.held k
+              (subst (λ (bs : List Changes). written_in lo bs k ≤ c.time) put.blocks l)
+              (subst (λ (b : ℕ). allows (range_in b lo old.times.items old.by_block.items k) (entry_fact entries k) ≡ true)
+              put.began
+              (subst (λ (ts : List ℕ). allows (range_in new.began lo ts old.by_block.items k) (entry_fact entries k) ≡ true)
+              put.times
+              (subst (λ (bs : List Changes).
+              allows (range_in new.began lo new.times.items bs k) (entry_fact entries k) ≡ true) put.blocks allowing)));
           pairs = before.pairs;
           whole = ap (λ (a : ℤ → Bool). list_all (whole_by a) entries) alone ∙ before.whole;
           due = ap (λ (a : ℤ → Bool). sum_by (due_by a) entries) alone ∙ before.due;
@@ -716,11 +450,7 @@ remembered-copied said facts others lo old new copied is remembered = (
       let time = ap (λ (ts : List ℕ). word_time lo ts k) copied.times in
       let began = copied.began in
       ap (λ (f : Facts). f k) is ∙ remembered.1 k (omega (arith, time, some)) (omega (arith, time, began, early)),
-  λ k n here. fixed-kept lo old new facts others k n here copied.began
-      (ap (λ (ws : List ℕ). time_of ws n) copied.words)
-      (ap (λ (bs : List Changes). (changes_of bs (n / block_words)).became) copied.blocks)
-      (ap (λ (f : Facts). f k) is) remembered.2,
-  aged-same said facts others lo old new is copied.time copied.began copied.firsts copied.lefts remembered.3,
+  aged-same said facts others lo old new is copied.time copied.began copied.firsts copied.lefts remembered.2,
 )
 
 -- ---- a comparison that is asked again
@@ -745,7 +475,7 @@ remembered-said said facts lo r remembered = remembered.1
 pub remembered-aged : (said facts : Facts) (lo : ℤ) (r : Remembered) → AreRemembered said facts lo r
     → AreAged said facts lo r
 unfolding AreRemembered
-remembered-aged said facts lo r remembered = remembered.3
+remembered-aged said facts lo r remembered = remembered.2
 
 -- ---- a comparison before all changes
 
@@ -773,7 +503,7 @@ pub remembered-first : (said : Facts) (lo end : ℤ) (r : Remembered) (facts : F
     → IsRemembered said lo r facts entries (record { time = 0; paid = 0; is_plain = true })
 remembered-first said lo end r facts entries end_is within none = record {
   knows = λ k l. silent k (outside-blocks lo r.times.items k (λ n h. r.each n (omega (arith, h))) l);
-  held = λ k l m allowing. silent k (unkept k (k -ℤ lo) refl m);
+  held = λ k l allowing. silent k (unkept k (k -ℤ lo) refl l);
   pairs = none-pairs entries none;
   whole = none-whole (was_alone said lo r 0) entries none;
   due = none-due (was_alone said lo r 0) entries none;
@@ -786,11 +516,11 @@ remembered-first said lo end r facts entries end_is within none = record {
         ap (says (facts k)) (within k (subst (λ (e : ℤ). (k <ℤ lo) ⊎ (e ≤ℤ k)) (sym end_is) out))
         ∙ says-unknown (facts k)
 
-    unkept : (k z : ℤ) → k -ℤ lo ≡ z → since_at r.by_block.items z ≤ 0
+    unkept : (k z : ℤ) → k -ℤ lo ≡ z → written_at r.by_block.items z ≤ 0
         → (k <ℤ lo) ⊎ ((lo +ℤ pos (length r.times.items * block_words)) ≤ℤ k)
     unkept k (pos n) at l = elim (cases_lt (n / block_words) (length r.times.items)) [
       | inl low ↦
-          let some = r.each_since (n / block_words) (omega (arith, low)) in
+          let some = r.each_written (n / block_words) (omega (arith, low)) in
           absurd (omega (arith, some, l))
       | inr high ↦
           let both = div-add-mod' n block_words in
@@ -803,26 +533,22 @@ remembered-first said lo end r facts entries end_is within none = record {
 -- a block of which no word was written since, and which was widened since by a range that says what is wanted
 pub widened-says : (said : Facts) (lo : ℤ) (r : Remembered) (facts : Facts) (entries : List Entry) (c : Compared)
     (number : ℕ) (low high : ℤ) → IsRemembered said lo r facts entries c
-    → (changes_of r.by_block.items number).since ≤ c.time
     → (changes_of r.by_block.items number).written ≤ c.time
-    → leaving_since r.began (changes_of r.by_block.items number) ≡ Some (Widen low high)
+    → leaving_since r.began (time_of r.times.items number) (changes_of r.by_block.items number) ≡ Some (Widen low high)
     → BlockImplied (entry_fact entries) (first_of lo number) (Number low high)
     → BlockSaysAll (first_of lo number) facts (entry_fact entries) block_words
-widened-says said lo r facts entries c number low high known since written range all = λ j l.
+widened-says said lo r facts entries c number low high known written range all = λ j l.
     let k = first_of lo number +ℤ pos j in
     let n = number * block_words + j in
     let index : k -ℤ lo ≡ pos n = omega (arith, ints) in
     let same = number-of n number block_words (omega arith) (omega (arith, l)) in
-    let word = ap (index_written r.words.items) index in
-    let before = r.placed n in
-    let block = ap (λ (i : ℕ). (changes_of r.by_block.items i).written) same in
-    let time = ap (since_at r.by_block.items) index in
-    let kept = ap (λ (i : ℕ). (changes_of r.by_block.items i).since) same in
+    let time = ap (written_at r.by_block.items) index in
+    let kept = ap (λ (i : ℕ). (changes_of r.by_block.items i).written) same in
     let here = all k (omega (arith, ints)) (omega (arith, ints, l)) in
-    let left : range_in r.began lo r.by_block.items k ≡ Some (Widen low high) =
-    ap (leaving_of_index r.began r.by_block.items) index
-    ∙ (ap (λ (i : ℕ). leaving_since r.began (changes_of r.by_block.items i)) same ∙ range) in
-    known.held k (omega (arith, word, before, block, written)) (omega (arith, time, kept, since))
+    let left : range_in r.began lo r.times.items r.by_block.items k ≡ Some (Widen low high) =
+    ap (leaving_of_index r.began r.times.items r.by_block.items) index
+    ∙ (ap (λ (i : ℕ). leaving_since r.began (time_of r.times.items i) (changes_of r.by_block.items i)) same ∙ range) in
+    known.held k (omega (arith, time, kept, written))
     (ap (λ (o : Option Leaving). allows o (entry_fact entries k)) left
     ∙ (ap (allows (Some (Widen low high))) here.is ∙ here.implied))
 

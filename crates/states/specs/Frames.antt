@@ -1,6 +1,6 @@
 -- What is known of the words of a frame: what was written since the last label, over what the label's row says.
 use Rattle.std.specs.Prelude.{◌≡◌, ◌&&◌, Bool, true, false, if◌then◌else◌, ℕ, ℤ, pos, ◌+ℤ◌, ◌-ℤ◌, ◌≤ℤ◌, ◌<ℤ◌}
-use Rattle.std.specs.Prelude.{◌<◌, ◌≤◌, ◌/◌, ◌⊎◌, List, length, get_or, vec_len}
+use Rattle.std.specs.Prelude.{◌<◌, ◌≤◌, ◌/◌, ◌⊎◌, List, length, get_or, vec_len, Option}
 use Rattle.module_format.specs.Rows.{Fact}
 use Rattle.module_format.specs.declared.rows.Parameter.{Parameter}
 use Rattle.states.specs.declared.frame.Frame.{Frame}
@@ -11,10 +11,9 @@ use Rattle.states.specs.declared.known.WordFact.TheVariants.{Alone, Index, Count
 use Rattle.states.specs.Lookup.{facts_over}
 use Rattle.states.specs.Blocks.{block_words, facts_left}
 use Rattle.module_format.specs.Rows.{Entry}
-use Rattle.states.specs.declared.recalling.Asking.{Asking}
 use Rattle.states.specs.declared.remembered.Compared.{Compared}
 use Rattle.states.specs.Below.{says}
-use Rattle.states.specs.Remembered.{word_written, range_says, became_until}
+use Rattle.states.specs.Remembered.{range_says}
 use Rattle.states.specs.Remembering.{IsRemembered}
 use Rattle.states.specs.State.{Facts, is_same_number, by_itself, said_of, entry_fact}
 use Rattle.states.specs.declared.span.Leaving.{Leaving}
@@ -32,37 +31,18 @@ abbrev pub IsKnown : Frame → List Entry → Compared → Type 0
 IsKnown frame entries c =
     IsRemembered (entry_fact frame.row.now) frame.lo frame.remembered (frame_facts frame) entries c
 
--- so it is still of all comparisons
-abbrev pub StayKnown : Frame → Frame → Type 0
-StayKnown old new = (entries : List Entry) (c : Compared) → IsKnown old entries c → IsKnown new entries c
-
--- a word need not be asked for this: it was not written since, and how its block was left says it
-abbrev pub IsUnasked : Frame → Asking → ℤ → Fact → Type 0
-IsUnasked frame asking k fact =
-    (range_says asking.range fact ≡ true)
-    × ((asking.is_written ≡ false) ⊎ (word_written frame.lo frame.remembered.words.items k ≤ asking.time))
-
--- nor for this: it was not written since its block became what says it
-abbrev pub IsFixed : Frame → Asking → ℤ → Fact → Type 0
-IsFixed frame asking k fact =
-    word_written frame.lo frame.remembered.words.items k < became_until frame.remembered.began asking.became fact
-
--- what entries want of a word of a block is known where it need not be asked
-abbrev pub IsAsking : Frame → ℕ → Compared → Asking → Type 0
-IsAsking frame number c asking =
+-- so all words of a block were left since: what that says of what entries want of one is known still
+abbrev pub IsLeftSince : Frame → ℕ → Compared → Option Leaving → Type 0
+IsLeftSince frame number c range =
     (entries : List Entry) → IsKnown frame entries c → (k : ℤ) (n : ℕ) → k -ℤ frame.lo ≡ pos n
     → n / block_words ≡ number → (fact : Fact) (is_first : Bool) → entry_fact entries k ≡ said_of fact is_first
-    → IsUnasked frame asking k fact → says (frame_facts frame k) (said_of fact is_first) ≡ true
+    → range_says range fact ≡ true → says (frame_facts frame k) (said_of fact is_first) ≡ true
 
--- what an entry wants of a word is known, or the word need not be asked
-abbrev pub WordIsSaid : Frame → Asking → Entry → ℤ → Type 0
-WordIsSaid frame asking entry k =
-    (says (frame_facts frame k) (said_of entry.fact (is_same_number entry.word k)) ≡ true)
-    ⊎ (IsUnasked frame asking k entry.fact ⊎ IsFixed frame asking k entry.fact)
-
--- so it is of the words from the first up to the end, which is not included
-abbrev pub EntryIsSaid : Frame → Asking → Entry → ℤ → ℤ → Type 0
-EntryIsSaid frame asking entry first end = (k : ℤ) → first ≤ℤ k → k <ℤ end → WordIsSaid frame asking entry k
+-- what an entry wants is known of each word from the first up to the end, which is not included
+abbrev pub EntryIsSaid : Frame → Entry → ℤ → ℤ → Type 0
+EntryIsSaid frame entry first end =
+    (k : ℤ) → first ≤ℤ k → k <ℤ end
+    → says (frame_facts frame k) (said_of entry.fact (is_same_number entry.word k)) ≡ true
 
 -- word k has this fact from now on, and the others what they had
 abbrev pub with_alone : ℤ → Fact → Facts → Facts

@@ -9,7 +9,6 @@ use Rattle.module_format.specs.Rows.{Fact, Entry}
 use Rattle.module_format.specs.declared.fact.Fact.TheVariants.{Loop, Number, Unknown}
 use Rattle.states.specs.declared.known.WordFact.{WordFact}
 use Rattle.states.specs.declared.known.WordFact.TheVariants.{Alone}
-use Rattle.states.specs.declared.remembered.Became.{Became}
 use Rattle.states.specs.declared.remembered.Changes.{Changes}
 use Rattle.states.specs.declared.remembered.Compared.{Compared}
 use Rattle.states.specs.declared.span.Leaving.{Leaving}
@@ -44,18 +43,9 @@ index_time times (negsuc n) = 0
 abbrev pub word_time : ℤ → List ℕ → ℤ → ℕ
 word_time lo times k = index_time times (k -ℤ lo)
 
--- when the word of an index was last written by itself
-abbrev pub index_written : List ℕ → ℤ → ℕ
-index_written words (pos index) = time_of words index
-index_written words (negsuc n) = 0
-
--- when a word was
-abbrev pub word_written : ℤ → List ℕ → ℤ → ℕ
-word_written lo words k = index_written words (k -ℤ lo)
-
 -- of a block nothing is kept
 abbrev pub no_changes : Changes
-no_changes = record { written = 0; since = 0; left = None; became = record { time = 0; fact = Unknown } }
+no_changes = record { written = 0; left = None }
 
 -- a first change was made since the state began as a label's, and by a time
 abbrev pub is_by : ℕ → ℕ → ℕ → Bool
@@ -75,27 +65,29 @@ index_changed began firsts lefts time (negsuc n) = false
 abbrev pub changes_of : List Changes → ℕ → Changes
 changes_of blocks number = get_or blocks number no_changes
 
--- since when it is kept how the block of an index was left
-abbrev pub since_at : List Changes → ℤ → ℕ
-since_at blocks (pos index) = (changes_of blocks (index / block_words)).since
-since_at blocks (negsuc n) = 0
+-- when a word of the block of an index was last written by itself, or all became one fact
+abbrev pub written_at : List Changes → ℤ → ℕ
+written_at blocks (pos index) = (changes_of blocks (index / block_words)).written
+written_at blocks (negsuc n) = 0
 
--- and of a word
-abbrev pub since_in : ℤ → List Changes → ℤ → ℕ
-since_in lo blocks k = since_at blocks (k -ℤ lo)
+-- so of the block of a word
+abbrev pub written_in : ℤ → List Changes → ℤ → ℕ
+written_in lo blocks k = written_at blocks (k -ℤ lo)
 
--- how all words of a block were left since then: in no way, if nothing is kept since the state began as a label's
-abbrev pub leaving_since : ℕ → Changes → Option Leaving
-leaving_since began changes = if nat_lt changes.since began then None else changes.left
+-- how all words of a block were left since one was last written: in no way, if the block was not changed since the
+-- state began as a label's
+abbrev pub leaving_since : ℕ → ℕ → Changes → Option Leaving
+leaving_since began time changes = if nat_lt time began then None else changes.left
 
 -- so of the block of an index
-abbrev pub leaving_of_index : ℕ → List Changes → ℤ → Option Leaving
-leaving_of_index began blocks (pos index) = leaving_since began (changes_of blocks (index / block_words))
-leaving_of_index began blocks (negsuc n) = None
+abbrev pub leaving_of_index : ℕ → List ℕ → List Changes → ℤ → Option Leaving
+leaving_of_index began times blocks (pos index) =
+    leaving_since began (time_of times (index / block_words)) (changes_of blocks (index / block_words))
+leaving_of_index began times blocks (negsuc n) = None
 
 -- and of a word
-abbrev pub range_in : ℕ → ℤ → List Changes → ℤ → Option Leaving
-range_in began lo blocks k = leaving_of_index began blocks (k -ℤ lo)
+abbrev pub range_in : ℕ → ℤ → List ℕ → List Changes → ℤ → Option Leaving
+range_in began lo times blocks k = leaving_of_index began times blocks (k -ℤ lo)
 
 -- there is a time for each block of this number of words, also for one that is not whole
 unfoldable pub HasTimes : ℕ → ℕ → Type 0
@@ -163,9 +155,3 @@ abbrev pub range_says : Option Leaving → Fact → Bool
 range_says None wanted = true
 range_says (Some (Widen lo hi)) wanted = implies (Number lo hi) wanted
 range_says (Some (Become said)) wanted = implies Unknown wanted
-
--- A word that was last written by itself before this time is what its block became, and so says what an entry wants of
--- it. What the block became means nothing once the state is that of a label.
-abbrev pub became_until : ℕ → Became → Fact → ℕ
-became_until began became wanted =
-    if nat_lt began became.time && implies became.fact wanted then became.time else 0

@@ -10,10 +10,8 @@ use Rattle.states.specs.declared.remembered.Remembered.{Remembered}
 use Rattle.states.specs.declared.span.Leaving.{Leaving}
 use Rattle.states.specs.State.{Facts, is_alone, entry_fact}
 use Rattle.states.specs.Below.{says}
-use Rattle.states.specs.declared.known.WordFact.TheVariants.{Alone}
-use Rattle.states.specs.Blocks.{block_words, left_after, is_widening}
-use Rattle.states.specs.Spans.{left_of}
-use Rattle.states.specs.Remembered.{never, compared_at, time_of, word_time, word_written, changes_of, since_in}
+use Rattle.states.specs.Blocks.{left_after, is_widening}
+use Rattle.states.specs.Remembered.{never, compared_at, time_of, word_time, changes_of, written_in}
 use Rattle.states.specs.Remembered.{leaving_since, range_in, first_since, index_changed, wants_no_loop}
 use Rattle.states.specs.Remembered.{are_loops_of_two, whole_by, due_by, allows}
 
@@ -28,25 +26,18 @@ abbrev pub was_alone : Facts → ℤ → Remembered → ℕ → ℤ → Bool
 was_alone said lo r time k = is_alone (said k) || was_changed lo r time k
 
 -- What entries want was known at the time of a comparison, and is still of the words whose blocks were not changed
--- since. It is still of a word that was not written since, where it is kept since then how its block was left, and that
--- allows it. No loop that they want was half known then, and this was paid for those whose words were by themselves.
+-- since. It is still of a word of whose block none was written since, if how that block was left allows it. No loop that
+-- they want was half known then, and this was paid for those whose words were by themselves.
 pub record IsRemembered (said : Facts) (lo : ℤ) (r : Remembered) (facts : Facts) (entries : List Entry)
     (c : Compared) : Type 0 where
   pub knows : (k : ℤ) → word_time lo r.times.items k ≤ c.time → says (facts k) (entry_fact entries k) ≡ true
-  pub held : (k : ℤ) → word_written lo r.words.items k ≤ c.time → since_in lo r.by_block.items k ≤ c.time
-      → allows (range_in r.began lo r.by_block.items k) (entry_fact entries k) ≡ true
+  pub held : (k : ℤ) → written_in lo r.by_block.items k ≤ c.time
+      → allows (range_in r.began lo r.times.items r.by_block.items k) (entry_fact entries k) ≡ true
       → says (facts k) (entry_fact entries k) ≡ true
   pub pairs : are_loops_of_two entries ≡ true
   pub whole : list_all (whole_by (was_alone said lo r c.time)) entries ≡ true
   pub due : sum_by (due_by (was_alone said lo r c.time)) entries ≡ c.paid
   pub plain : c.is_plain ≡ true → wants_no_loop entries ≡ true
-
--- All words of a block are what they became, but for those that were written by themselves since.
-abbrev pub AreFixed : Facts → ℤ → Remembered → Type 0
-AreFixed facts lo r =
-    (k : ℤ) (n : ℕ) → k -ℤ lo ≡ pos n → r.began < (changes_of r.by_block.items (n / block_words)).became.time
-    → time_of r.words.items n < (changes_of r.by_block.items (n / block_words)).became.time
-    → facts k ≡ Alone (changes_of r.by_block.items (n / block_words)).became.fact
 
 -- the words are by themselves of which the label says so, or that were changed since
 abbrev pub AreAged : Facts → Facts → ℤ → Remembered → Type 0
@@ -59,7 +50,7 @@ AreRemembered said facts lo r =
     ((at : ℕ) (t : Label) → label_at r.«module».now at ≡ Some t → r.began ≤ (compared_at r.compared.items at).time
     → IsRemembered said lo r facts t.entries (compared_at r.compared.items at))
     × ((k : ℤ) → 1 ≤ word_time lo r.times.items k → word_time lo r.times.items k < r.began → facts k ≡ said k)
-    × AreFixed facts lo r × AreAged said facts lo r
+    × AreAged said facts lo r
 
 pub AreRemembered-prop : (said facts : Facts) (lo : ℤ) (r : Remembered) → IsProp (AreRemembered said facts lo r)
 unfolding AreRemembered
@@ -71,7 +62,7 @@ AreRemembered-prop said facts lo r = hlevel props
 pub record IsKept (old new : Remembered) : Type 0 where
   pub same : new.«module».now ≡ old.«module».now
   pub len : vec_len new.times ≡ vec_len old.times
-  pub words : vec_len new.words ≡ vec_len old.words
+  pub words : vec_len new.firsts.words ≡ vec_len old.firsts.words
   pub each : (at : ℕ) → (compared_at new.compared.items at ≡ compared_at old.compared.items at)
       ⊎ (compared_at new.compared.items at ≡ never)
 
@@ -84,57 +75,35 @@ pub record IsChanged (number : ℕ) (old new : Remembered) : Type 0 where
   pub later : (at : ℕ) → (compared_at new.compared.items at).time < time_of new.times.items number
   pub others : (n : ℕ) → n ≢ number → time_of new.times.items n ≡ time_of old.times.items n
 
--- a word of a block was written, and how blocks were left is kept
+-- a word of a block was written, and what is kept for the others stays
 pub record IsPlaced (index number : ℕ) (old new : Remembered) : Type 0 where
   pub changed : IsChanged number old new
-  pub here : time_of new.words.items index ≡ time_of new.times.items number
-  pub words : (n : ℕ) → n ≢ index → time_of new.words.items n ≡ time_of old.words.items n
+  pub here : (changes_of new.by_block.items number).written ≡ time_of new.times.items number
+  pub others : (n : ℕ) → n ≢ number → changes_of new.by_block.items n ≡ changes_of old.by_block.items n
   pub first : time_of new.firsts.words.items index ≡ first_since old.began (time_of old.firsts.words.items index) new.time
   pub firsts : (n : ℕ) → n ≢ index → time_of new.firsts.words.items n ≡ time_of old.firsts.words.items n
   pub lefts : new.firsts.blocks.items ≡ old.firsts.blocks.items
-  pub since : (n : ℕ) → (changes_of new.by_block.items n).since ≡ (changes_of old.by_block.items n).since
-  pub left : (n : ℕ) → (changes_of new.by_block.items n).left ≡ (changes_of old.by_block.items n).left
-  pub became : (n : ℕ) → (changes_of new.by_block.items n).became ≡ (changes_of old.by_block.items n).became
-  pub now : (n : ℕ) → (changes_of new.by_block.items n).became.time ≤ time_of new.words.items index
 
 -- all words of a block were left so, and for the other blocks all is kept
 pub record IsLeftSo (number : ℕ) (leaving : Leaving) (old new : Remembered) : Type 0 where
   pub changed : IsChanged number old new
-  pub words : new.words.items ≡ old.words.items
+  pub others : (n : ℕ) → n ≢ number → changes_of new.by_block.items n ≡ changes_of old.by_block.items n
   pub firsts : new.firsts.words.items ≡ old.firsts.words.items
   pub first : time_of new.firsts.blocks.items number ≡ first_since old.began (time_of old.firsts.blocks.items number) new.time
   pub lefts : (n : ℕ) → n ≢ number → time_of new.firsts.blocks.items n ≡ time_of old.firsts.blocks.items n
-  pub others : (n : ℕ) → n ≢ number → changes_of new.by_block.items n ≡ changes_of old.by_block.items n
-  pub since : is_widening leaving ≡ true
-      → (changes_of old.by_block.items number).since ≤ (changes_of new.by_block.items number).since
-  pub range : is_widening leaving ≡ true → leaving_since new.began (changes_of new.by_block.items number)
-      ≡ Some (left_after (leaving_since old.began (changes_of old.by_block.items number)) leaving)
-  pub fact : (changes_of new.by_block.items number).became.fact
-      ≡ left_of leaving (changes_of old.by_block.items number).became.fact
-  pub time : is_widening leaving ≡ true
-      → (changes_of new.by_block.items number).became.time ≡ (changes_of old.by_block.items number).became.time
+  pub written : is_widening leaving ≡ true
+      → (changes_of new.by_block.items number).written ≡ (changes_of old.by_block.items number).written
+  pub range : is_widening leaving ≡ true
+      → leaving_since new.began (time_of new.times.items number) (changes_of new.by_block.items number)
+      ≡ Some (left_after (leaving_since old.began (time_of old.times.items number)
+      (changes_of old.by_block.items number)) leaving)
   pub anew : is_widening leaving ≡ false
-      → time_of new.times.items number ≤ (changes_of new.by_block.items number).since
-
--- how a block was left is kept from now on, and not since before
-pub record IsRenewed (number : ℕ) (old new : Remembered) : Type 0 where
-  pub same : new.«module».now ≡ old.«module».now
-  pub times : new.times.items ≡ old.times.items
-  pub words : new.words.items ≡ old.words.items
-  pub firsts : new.firsts.words.items ≡ old.firsts.words.items
-  pub lefts : new.firsts.blocks.items ≡ old.firsts.blocks.items
-  pub time : new.time ≡ old.time
-  pub began : new.began ≡ old.began
-  pub compared : new.compared.items ≡ old.compared.items
-  pub now : (changes_of new.by_block.items number).since ≡ new.time
-  pub became : (n : ℕ) → (changes_of new.by_block.items n).became ≡ (changes_of old.by_block.items n).became
-  pub others : (n : ℕ) → n ≢ number → changes_of new.by_block.items n ≡ changes_of old.by_block.items n
+      → time_of new.times.items number ≤ (changes_of new.by_block.items number).written
 
 -- the state was compared with the label at an offset, and this was paid
 pub record IsPut (offset paid : ℕ) (is_plain : Bool) (old new : Remembered) : Type 0 where
   pub same : new.«module».now ≡ old.«module».now
   pub times : new.times.items ≡ old.times.items
-  pub words : new.words.items ≡ old.words.items
   pub firsts : new.firsts.words.items ≡ old.firsts.words.items
   pub lefts : new.firsts.blocks.items ≡ old.firsts.blocks.items
   pub blocks : new.by_block.items ≡ old.by_block.items
@@ -148,9 +117,8 @@ pub record IsPut (offset paid : ℕ) (is_plain : Bool) (old new : Remembered) : 
 pub record IsCopy (old new : Remembered) : Type 0 where
   pub same : new.«module».now ≡ old.«module».now
   pub len : vec_len new.times ≡ vec_len old.times
-  pub count : vec_len new.words ≡ vec_len old.words
+  pub count : vec_len new.firsts.words ≡ vec_len old.firsts.words
   pub times : new.times.items ≡ old.times.items
-  pub words : new.words.items ≡ old.words.items
   pub firsts : new.firsts.words.items ≡ old.firsts.words.items
   pub lefts : new.firsts.blocks.items ≡ old.firsts.blocks.items
   pub blocks : new.by_block.items ≡ old.by_block.items

@@ -3,6 +3,7 @@ use Rattle.std.specs.Prelude.{◌≡◌, ℕ, ◌+◌, ℤ, ◌≤ℤ◌, ◌<�
 use Rattle.std.specs.List.{list_all}
 use Rattle.module_format.specs.Rows.{Fact, Entry}
 use Rattle.states.specs.declared.known.WordFact.TheVariants.{Alone}
+use Rattle.states.specs.declared.frame_runs.Alike.{Alike}
 use Rattle.states.specs.declared.runs.Run.{Run}
 use Rattle.states.specs.State.{Facts}
 use Rattle.states.specs.Below.{words_say, entries_hold, is_whole, price}
@@ -16,6 +17,12 @@ pub record IsRun (facts : Facts) (word end : ℤ) (run : Run) : Type 0 where
   pub ahead : word <ℤ run.end
   pub within : run.end ≤ℤ end
   pub same : IsAlike facts word run.end run.fact
+
+-- words from one on, at least one and none from `end` on, of which the same is known, be it of a loop
+pub record AreAlike (facts : Facts) (word end : ℤ) (alike : Alike) : Type 0 where
+  pub ahead : word <ℤ alike.end
+  pub within : alike.end ≤ℤ end
+  pub same : (k : ℤ) → word ≤ℤ k → k <ℤ alike.end → facts k ≡ alike.fact
 
 -- at least what an entry wants is known of its words, its loop, if it is of one, is not half known, and this is paid
 pub record IsPaidEntry (facts : Facts) (entry : Entry) (paid : ℕ) : Type 0 where

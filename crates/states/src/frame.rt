@@ -52,7 +52,7 @@ pub(crate) struct Frame<'a> {
             (facts_over lo row.now overlay.written.items)) lo by_block.kept.items },
     ghost added: { AreSums (facts_left lo by_block.kept.items (facts_over lo row.now overlay.written.items)) lo sums } by { AreSums-prop (facts_left lo by_block.kept.items (facts_over lo row.now overlay.written.items)) lo sums },
     ghost timed: { HasTimes (vec_len overlay.places) (vec_len remembered.times) } by { HasTimes-prop (vec_len overlay.places) (vec_len remembered.times) },
-    ghost each_timed: { vec_len remembered.words ≡ vec_len overlay.places },
+    ghost each_timed: { vec_len remembered.firsts.words ≡ vec_len overlay.places },
     ghost compared: { AreRemembered (entry_fact row.now)
         (facts_left lo by_block.kept.items (facts_over lo row.now overlay.written.items))
         lo remembered } by { AreRemembered-prop (entry_fact row.now)

@@ -31,7 +31,7 @@ fn begins(size: Size, index: usize, most: u32) -> bool
 
 impl Frame<'_> {
     /// What is known together of the words of the span of a size that begins at a word, if one does and was summed.
-    fn sum_of(&self, size: Size, word: i64) -> Option<Together>
+    pub(crate) fn sum_of(&self, size: Size, word: i64) -> Option<Together>
         ensures { IfSome result (λ sum. sum ≡ together (frame_facts self.now) word (words_of size)) }
     {
         let lo = i64::from(self.lo);
@@ -115,7 +115,7 @@ impl Frame<'_> {
     }
 
     /// The block that begins at an index is summed from now on, if one does.
-    fn sum_block_at(&mut self, index: usize)
+    pub(crate) fn sum_block_at(&mut self, index: usize)
         ensures facts { frame_facts self.new ≡ frame_facts self.old }
         ensures room { SameRoom self.old self.new }
     {

@@ -8,11 +8,10 @@ ghost use Rattle.module_format.specs.Contents.{label_of, label_at};
 ghost use Rattle.states.specs.Blocks.{block_words, first_of};
 ghost use Rattle.states.specs.Comparing.{SaysAll, BlockSaysAll, loop_of};
 ghost use Rattle.states.specs.Below.{says};
-ghost use Rattle.states.specs.Frames.{frame_facts, IsKnown, StayKnown, IsAsking, WordIsSaid, EntryIsSaid};
-ghost use Rattle.states.specs.Frames.{SameRoom};
+ghost use Rattle.states.specs.Frames.{frame_facts, IsKnown, IsLeftSince, EntryIsSaid, SameRoom};
 ghost use Rattle.states.specs.Implied.{BlockImplied};
-ghost use Rattle.states.specs.Remembered.{compared_at, time_of, changes_of, word_written, wants_no_loop};
-ghost use Rattle.states.specs.Remembered.{are_loops_of_two, range_says, became_until, IsPaid, ChangedSay};
+ghost use Rattle.states.specs.Remembered.{compared_at, time_of, changes_of, wants_no_loop};
+ghost use Rattle.states.specs.Remembered.{are_loops_of_two, range_says, IsPaid, ChangedSay};
 ghost use Rattle.states.specs.Remembered.{IsDueSince, AreDueSince};
 ghost use Rattle.states.specs.Remembering.{was_changed, was_alone};
 ghost use Rattle.states.specs.Rows.{AreApart};
@@ -23,7 +22,7 @@ use crate::frame::Frame;
 use crate::implication::{implies, says};
 use crate::implied::{all_implied, from_word, is_row_within};
 use crate::known::Loop;
-use crate::remembered::{Became, Compared};
+use crate::remembered::Compared;
 use crate::row::{end_of, entry_said, loop_of, past_saying, row_fact, start_of};
 use crate::span::Leaving;
 use module_format::{Entry, Fact, LabelRow};
@@ -46,32 +45,20 @@ fn are_loops_of_two(row: &[Entry]) -> bool
 /// How many words are asked one by one at most of a pair of labels that is new.
 const MOST_OF_NEW: u64 = 256;
 
-/// How many words may be asked at a jump that were not written since, before it is looked where that was in vain.
-const FEW: u64 = 64;
-
-/// How many words of a block may be asked that were not written since, before it is kept anew how it is left.
-const FEW_OF_BLOCK: u64 = 8;
-
-/// Which words of a block are asked.
-#[derive(Clone, Copy)]
-pub(crate) struct Asking {
-    /// Those that were written by themselves after this time are.
-    pub time: u64,
-    /// Some may be.
-    pub is_written: bool,
-    /// How the others were left. They are asked where this does not say what is wanted.
-    pub range: Option<Leaving>,
-    /// What all words of the block became. Those that were not written since are not asked where it says what is
-    /// wanted.
-    pub became: Became,
+/// How many words are asked one by one at most, behind a comparison or behind none.
+fn most_asked(compared: Compared) -> u64 {
+    if compared.time == 0 {
+        MOST_OF_NEW
+    } else {
+        u64::MAX
+    }
 }
 
-/// A comparison that tells what is paid now, and how many words were asked that were not written since.
+/// A comparison that tells what is paid now.
 #[derive(Clone, Copy)]
 struct Told {
     compared: Compared,
     paid: u64,
-    asked: u64,
 }
 
 /// Whether how a block was left says what an entry wants of a word of which it was known. A block that became one fact
@@ -85,18 +72,6 @@ fn range_says(range: Option<Leaving>, wanted: Fact) -> bool
         Some(Leaving::Widen { lo, hi }) => implies(Fact::Number { lo, hi }, wanted),
         Some(Leaving::Become(_)) => implies(Fact::Unknown, wanted),
     }
-}
-
-/// Words of a block that were last written by themselves before this time say what an entry wants of them, by what all
-/// words of the block became.
-#[inline(always)]
-fn became_until(began: u64, became: Became, wanted: Fact) -> u64
-    ensures { result ≡ became_until began became wanted }
-{
-    if began < became.time && implies(became.fact, wanted) {
-        return became.time;
-    }
-    0
 }
 
 impl Frame<'_> {
@@ -289,8 +264,7 @@ impl Frame<'_> {
         ensures { IsTrue result
             → BlockSaysAll (first_of self.now.lo number) (frame_facts self.now) (entry_fact row.now) block_words }
     {
-        let changes = self.remembered.changes(number);
-        if compared.time < changes.since || compared.time < changes.written {
+        if compared.time < self.remembered.changes(number).written {
             return false;
         }
         let Some(Leaving::Widen { lo, hi }) = self.remembered.range(number) else {
@@ -299,97 +273,65 @@ impl Frame<'_> {
         self.fact_says(number, row, Fact::Number { lo, hi })
     }
 
-    /// When a word was last written by itself.
-    #[inline(always)]
-    fn word_written(&self, word: i64) -> u64
-        ensures { result ≡ word_written self.now.lo self.now.remembered.words.items word }
+    /// How all words of a block were left since a comparison. If one was written since, nothing is left of what was known
+    /// of all of them.
+    fn left_since(&self, number: usize, compared: Compared) -> Option<Leaving>
+        ensures { IsLeftSince self.now number compared result }
     {
-        let lo = i64::from(self.lo);
-        if word < lo {
-            return 0;
+        if compared.time < self.remembered.changes(number).written {
+            return Some(Leaving::Become(Fact::Unknown));
         }
-        self.remembered.written(word.abs_diff(lo) as usize)
+        self.remembered.range(number)
     }
 
-    /// Which words of a block are asked behind a comparison: those that were written since, and of the others those of
-    /// which how the block was left does not say what is wanted. That is not known of the time before it is kept.
-    fn asking(&self, number: usize, compared: Compared) -> Asking
-        ensures asking { IsAsking self.now number compared result }
-        ensures became { result.became ≡ (changes_of self.now.remembered.by_block.items number).became }
+    /// Whether what an entry wants is known of each word from the first up to `end` (not included), asked one by one.
+    fn each_says(&self, entry: &Entry, first: i64, end: i64) -> bool
+        ensures { IsTrue result → EntryIsSaid self.now entry.now first end }
     {
-        let changes = self.remembered.changes(number);
-        let time = compared.time;
-        let range = if time < changes.since {
-            Some(Leaving::Become(Fact::Unknown))
-        } else {
-            self.remembered.range(number)
-        };
-        Asking {
-            time,
-            is_written: time < changes.written,
-            range,
-            became: changes.became,
+        for word in first..end {
+            if !says(self.fact_at(word), entry_said(entry, word)) {
+                return false;
+            }
+        }
+        true
+    }
+
+    /// The same, asked a run at a time if the entry is of no loop.
+    fn entry_says(&self, entry: &Entry, first: i64, end: i64) -> bool
+        requires { end <ℤ pos (2 ^ 40) }
+        ensures { IsTrue result → EntryIsSaid self.now entry.now first end }
+    {
+        match loop_of(entry.fact) {
+            Some(_) => self.each_says(entry, first, end),
+            None => self.runs_say(entry.fact, first, end),
         }
     }
 
-    /// Whether what an entry wants of a word is known, if it is asked: where it was written, or how its block was left
-    /// does not say it. `most` words may be asked that were not written since a comparison, or at all where none was
-    /// made. Returns how many may be asked after that.
-    #[inline(always)]
-    fn word_says(
-        &self,
-        entry: &Entry,
-        word: i64,
-        asking: Asking,
-        is_said: bool,
-        until: u64,
-        most: u64,
-    ) -> Option<u64>
-        requires said { is_said ≡ range_says asking.range entry.now.fact }
-        requires until { until ≡ became_until self.now.remembered.began asking.became entry.now.fact }
-        ensures { IfSome result (λ _. WordIsSaid self.now asking entry.now word) }
-    {
-        let written = self.word_written(word);
-        let is_written = asking.time < written;
-        if written < until || is_said && !is_written {
-            return Some(most);
-        }
-        if !says(self.fact_at(word), entry_said(entry, word)) {
-            return None;
-        }
-        let is_free = is_written && asking.time > 0;
-        if is_free {
-            return Some(most);
-        }
-        most.checked_sub(1)
-    }
-
-    /// The same of some words. None is asked where how their block was left says what the entry wants, and none was
-    /// written.
-    fn words_say(
+    /// The same, if how their block was left does not say what the entry wants. `most` words may be asked. Returns how
+    /// many may be asked after that.
+    fn part_says(
         &self,
         entry: &Entry,
         first: i64,
         end: i64,
-        asking: Asking,
+        range: Option<Leaving>,
         most: u64,
     ) -> Option<u64>
-        ensures { IfSome result (λ _. EntryIsSaid self.now asking entry.now first end) }
+        requires { end <ℤ pos (2 ^ 40) }
+        ensures { IfSome result (λ _. (range_says range entry.now.fact ≡ true) ⊎ EntryIsSaid self.now entry.now first end) }
     {
-        let is_said = range_says(asking.range, entry.fact);
-        if is_said && !asking.is_written {
+        if range_says(range, entry.fact) {
             return Some(most);
         }
-        let until = became_until(self.remembered.began, asking.became, entry.fact);
-        let mut left = most;
-        for word in first..end {
-            left = self.word_says(entry, word, asking, is_said, until, left)?;
+        let left = most.checked_sub(first.abs_diff(end))?;
+        if !self.entry_says(entry, first, end) {
+            return None;
         }
         Some(left)
     }
 
     /// Whether at least what a row wants is known of each word of a block, which need not be a whole one. `most` words
-    /// may be asked that were not written since a comparison. Returns how many may be asked after that.
+    /// may be asked. Returns how many may be asked after that.
     fn entries_say(
         &self,
         number: usize,
@@ -403,7 +345,7 @@ impl Frame<'_> {
         ensures { IfSome result (λ _. BlockSaysAll (first_of self.now.lo number) (frame_facts self.now)
             (entry_fact row.now) block_words) }
     {
-        let asking = self.asking(number, compared);
+        let range = self.left_since(number, compared);
         let index = number * block_words();
         let first = self.word_of(index);
         let end = self.word_of(index + block_words());
@@ -414,14 +356,14 @@ impl Frame<'_> {
                 return Some(left);
             }
             let from = start_of(entry).max(first);
-            left = self.words_say(entry, from, end_of(entry).min(end), asking, left)?;
+            left = self.part_says(entry, from, end_of(entry).min(end), range, left)?;
             rest = later;
         }
         Some(left)
     }
 
-    /// Whether at least what a row wants is known of each word of a block. `most` words may be asked that were not
-    /// written since a comparison. Returns how many may be asked after that.
+    /// Whether at least what a row wants is known of each word of a block. `most` words may be asked one by one. Returns
+    /// how many may be asked after that.
     fn block_says(
         &self,
         offset: u32,
@@ -449,67 +391,25 @@ impl Frame<'_> {
         self.entries_say(number, &row.entries, compared, most)
     }
 
-    /// Whether at least what a row wants is known of each word of the blocks that were changed since a comparison.
-    /// `most` words may be asked that were not written since. Returns how many may be asked after that.
-    fn changed_say(&self, offset: u32, row: &LabelRow, compared: Compared, most: u64) -> Option<u64>
+    /// Whether at least what a row wants is known of each word of the blocks that were changed since a comparison. Where
+    /// there was none, few words are asked one by one.
+    fn changed_say(&self, offset: u32, row: &LabelRow, compared: Compared) -> bool
         requires label { label_at self.now.remembered.«module».now offset ≡ Some (label_of row.now) }
         requires apart { AreApart row.now.entries.items }
         requires known { IsKnown self.now row.now.entries.items compared }
-        ensures { IfSome result (λ _. ChangedSay self.now.lo self.now.remembered.times.items (frame_facts self.now)
-            (entry_fact row.now.entries.items) compared.time) }
+        ensures { IsTrue result → ChangedSay self.now.lo self.now.remembered.times.items (frame_facts self.now)
+            (entry_fact row.now.entries.items) compared.time }
     {
-        let mut left = most;
+        let mut left = most_asked(compared);
         for number in 0..self.remembered.times.len() {
             if compared.time < self.remembered.times[number] {
-                left = self.block_says(offset, number, row, compared, left)?;
+                match self.block_says(offset, number, row, compared, left) {
+                    Some(rest) => left = rest,
+                    None => return false,
+                }
             }
         }
-        Some(left)
-    }
-
-    /// Whether too many words of a block are asked that were not written since a comparison, because of how it was left
-    /// before that.
-    fn is_stale(&self, offset: u32, number: usize, row: &LabelRow, compared: Compared) -> bool
-        requires some { number < vec_len self.now.remembered.times }
-        requires label { label_at self.now.remembered.«module».now offset ≡ Some (label_of row.now) }
-        requires apart { AreApart row.now.entries.items }
-        requires known { IsKnown self.now row.now.entries.items compared }
-    {
-        if self.remembered.time_of(number) <= compared.time {
-            return false;
-        }
-        if compared.time < self.remembered.changes(number).since {
-            return false;
-        }
-        self.block_says(offset, number, row, compared, FEW_OF_BLOCK)
-            .is_none()
-    }
-
-    /// How a block is left is kept from now on, and not since before.
-    fn renew(&mut self, number: usize)
-        requires { number < vec_len self.old.remembered.times }
-        ensures facts { frame_facts self.new ≡ frame_facts self.old }
-        ensures room { SameRoom self.old self.new }
-        ensures len { vec_len self.new.remembered.times ≡ vec_len self.old.remembered.times }
-        ensures known { StayKnown self.old self.new }
-    {
-        self.remembered.renew(number);
-    }
-
-    /// How blocks are left is kept from now on where too many of their words are asked that were not written since a
-    /// comparison, because of how they were left before it.
-    fn renew_some(&mut self, offset: u32, row: &LabelRow, compared: Compared)
-        requires label { label_at self.old.remembered.«module».now offset ≡ Some (label_of row.now) }
-        requires apart { AreApart row.now.entries.items }
-        requires known { IsKnown self.old row.now.entries.items compared }
-        ensures facts { frame_facts self.new ≡ frame_facts self.old }
-        ensures room { SameRoom self.old self.new }
-    {
-        for number in 0..self.remembered.times.len() {
-            if self.is_stale(offset, number, row, compared) {
-                self.renew(number);
-            }
-        }
+        true
     }
 
     /// Whether the label at a code offset wants no loop. Where claims were made of it, its entries are not passed.
@@ -567,24 +467,17 @@ impl Frame<'_> {
         Some(compared)
     }
 
-    /// How many words are asked that were not written since a comparison, if what was changed since is not less than
-    /// the label wants.
-    fn asked_since(&self, offset: u32, row: &LabelRow, compared: Compared) -> Option<u64>
+    /// Whether at least what a row wants is known of each word still.
+    fn says_still(&self, offset: u32, row: &LabelRow, compared: Compared) -> bool
         requires label { label_at self.now.remembered.«module».now offset ≡ Some (label_of row.now) }
         requires apart { AreApart row.now.entries.items }
         requires known { IsKnown self.now row.now.entries.items compared }
-        ensures { IfSome result (λ _. SaysAll (frame_facts self.now) (entry_fact row.now.entries.items)) }
+        ensures { IsTrue result → SaysAll (frame_facts self.now) (entry_fact row.now.entries.items) }
     {
         if compared.time == self.remembered.time {
-            return Some(0);
+            return true;
         }
-        let most = if compared.time == 0 {
-            MOST_OF_NEW
-        } else {
-            u64::MAX
-        };
-        let left = self.changed_say(offset, row, compared, most)?;
-        Some(most.saturating_sub(left))
+        self.changed_say(offset, row, compared)
     }
 
     /// That comparison, if it tells what is paid now.
@@ -595,13 +488,11 @@ impl Frame<'_> {
         ensures paid { IfSome result (λ told. IsPaid (frame_facts self.now) row.now.entries.items told.paid) }
     {
         let compared = self.last(offset, row)?;
-        let asked = self.asked_since(offset, row, compared)?;
+        if !self.says_still(offset, row, compared) {
+            return None;
+        }
         let paid = self.paid_since(row, compared)?;
-        Some(Told {
-            compared,
-            paid,
-            asked,
-        })
+        Some(Told { compared, paid })
     }
 
     /// It is remembered what was paid at the label at a code offset.
@@ -626,15 +517,29 @@ impl Frame<'_> {
         self.sum(self.lo, count);
     }
 
-    /// Claims are made of a label with many entries, if none were made, with which no comparison is remembered. All
-    /// blocks are summed where too many words were changed to seek each in its row.
+    /// The blocks are summed of which a word was written after a time.
+    fn sum_written(&mut self, time: u64)
+        ensures facts { frame_facts self.new ≡ frame_facts self.old }
+        ensures room { SameRoom self.old self.new }
+    {
+        for number in 0..self.by_block.room {
+            if time < self.remembered.changes(number).written {
+                self.sum_block_at(number * block_words());
+            }
+        }
+    }
+
+    /// Sums are made that a comparison asks. Where none is remembered with a label of many entries, claims are made of
+    /// it, if none were made, and all blocks are summed if too many words were changed to seek each in its row.
     fn prepare(&mut self, offset: u32, row: &LabelRow)
         requires label { label_at self.old.remembered.«module».now offset ≡ Some (label_of row.now) }
         requires apart { AreApart row.now.entries.items }
         ensures facts { frame_facts self.new ≡ frame_facts self.old }
         ensures room { SameRoom self.old self.new }
     {
-        if self.remembered.at(offset as usize).time >= self.remembered.began {
+        let time = self.remembered.at(offset as usize).time;
+        if time >= self.remembered.began {
+            self.sum_written(time);
             return;
         }
         let blocks = self.remembered.times.len();
@@ -654,14 +559,7 @@ impl Frame<'_> {
         ensures room { SameRoom self.old self.new }
     {
         self.prepare(offset, row);
-        let Told {
-            compared,
-            paid,
-            asked,
-        } = self.known(offset, row)?;
-        if asked > FEW {
-            self.renew_some(offset, row, compared);
-        }
+        let Told { compared, paid } = self.known(offset, row)?;
         self.put(offset, row, paid, compared.is_plain);
         Some(paid)
     }

@@ -9,7 +9,6 @@ use crate::blocks::block_words;
 use crate::firsts::Firsts;
 use crate::span::Leaving;
 use certificate::Module;
-use module_format::Fact;
 use std::alloc::{AllocError, Global};
 
 /// A comparison of the state with the label at a code offset.
@@ -32,52 +31,27 @@ impl Compared {
     };
 }
 
-/// What all words of a block became.
-#[derive(Clone, Copy)]
-pub(crate) struct Became {
-    /// When they did. It means nothing if the state became that of a label then or later.
-    pub time: u64,
-    /// What each of them is that was not written by itself since.
-    pub fact: Fact,
-}
-
-impl Became {
-    /// They became nothing.
-    const NEVER: Became = Became {
-        time: 0,
-        fact: Fact::Unknown,
-    };
-}
-
 /// How the words of a block were changed.
 #[derive(Clone, Copy)]
 pub(crate) struct Changes {
-    /// When one of them was last written by itself.
+    /// When one of them was last written by itself, or all became one fact.
     pub written: u64,
-    /// Since when it is kept how all of them were left. What is kept since before the state became that of a label
-    /// means nothing.
-    pub since: u64,
-    /// How they were left since then, if they were: widened by a range.
+    /// How all of them were left since then, if they were: widened by a range. What was kept before the state became
+    /// that of a label means nothing.
     pub left: Option<Leaving>,
-    /// What they became.
-    pub became: Became,
 }
 
 impl Changes {
     /// Nothing is kept.
     const NONE: Changes = Changes {
         written: 0,
-        since: 0,
         left: None,
-        became: Became::NEVER,
     };
 
     /// All words were written when time began.
     const FIRST: Changes = Changes {
         written: 1,
-        since: 1,
         left: None,
-        became: Became::NEVER,
     };
 }
 
@@ -93,9 +67,6 @@ fn first_times(alloc: Global, count: usize) -> Result<Vec<u64>, AllocError>
 /// What is kept of so many blocks when time begins.
 fn first_changes(alloc: Global, count: usize) -> Result<Vec<Changes>, AllocError>
     ensures len { IfOk result (λ v. vec_len v ≡ count) }
-    ensures early { IfOk result (λ v. (n : ℕ) → (changes_of v.items n).written ≤ 1) }
-    ensures became { IfOk result (λ v. (n : ℕ) → (changes_of v.items n).became.time ≤ 1) }
-    ensures since { IfOk result (λ v. (n : ℕ) → n < count → 1 ≤ (changes_of v.items n).since) }
     ensures written { IfOk result (λ v. (n : ℕ) → n < count → 1 ≤ (changes_of v.items n).written) }
 {
     vec![in alloc; Changes::FIRST; count]
@@ -115,8 +86,6 @@ pub(crate) struct Remembered<'a> {
     pub module: &'a Module<'a>,
     /// For each block of words when one of them was last changed.
     pub times: Vec<u64>,
-    /// For each word when it was last written by itself.
-    pub words: Vec<u64>,
     pub firsts: Firsts,
     pub by_block: Vec<Changes>,
     /// When the last change was.
@@ -130,18 +99,14 @@ pub(crate) struct Remembered<'a> {
     ghost past: { (at : ℕ) → (compared_at compared.items at).time ≤ time },
     ghost alike: { vec_len by_block ≡ vec_len times },
     ghost each: { (n : ℕ) → n < vec_len times → 1 ≤ time_of times.items n },
-    ghost each_since: { (n : ℕ) → n < vec_len times → 1 ≤ (changes_of by_block.items n).since },
-    ghost became: { (n : ℕ) → (changes_of by_block.items n).became.time ≤ time },
-    ghost recent: { (n : ℕ) → (changes_of by_block.items n).written ≤ time },
-    ghost placed: { (n : ℕ) → time_of words.items n ≤ (changes_of by_block.items (n / block_words)).written },
-    ghost each_first: { vec_len firsts.words ≡ vec_len words },
+    ghost each_written: { (n : ℕ) → n < vec_len times → 1 ≤ (changes_of by_block.items n).written },
     ghost each_left: { vec_len firsts.blocks ≡ vec_len times },
     ghost early: { firsts.latest ≤ time },
-    ghost timed: { HasTimes (vec_len words) (vec_len times) } by { HasTimes-prop (vec_len words) (vec_len times) },
+    ghost timed: { HasTimes (vec_len firsts.words) (vec_len times) } by { HasTimes-prop (vec_len firsts.words) (vec_len times) },
 }
 
 impl<'a> Remembered<'a> {
-    ghost use Rattle.states.specs.Remembering.{IsKept, IsPlaced, IsLeftSo, IsRenewed, IsPut, IsCopy};
+    ghost use Rattle.states.specs.Remembering.{IsKept, IsPlaced, IsLeftSo, IsPut, IsCopy};
 
     /// Nothing is remembered, of a frame with this number of words.
     pub(crate) fn new(
@@ -151,7 +116,7 @@ impl<'a> Remembered<'a> {
     ) -> Result<Self, AllocError>
         requires { words < 2 ^ 40 }
         ensures same { IfOk result (λ r. r.«module».now ≡ «module».now) }
-        ensures words { IfOk result (λ r. vec_len r.words ≡ words) }
+        ensures words { IfOk result (λ r. vec_len r.firsts.words ≡ words) }
         ensures none { IfOk result (λ r. (at : ℕ) → (compared_at r.compared.items at).time < r.began) }
         ensures began { IfOk result (λ r. r.time ≤ r.began) }
         ensures firsts { IfOk result (λ r. (n : ℕ) → time_of r.firsts.words.items n < r.began) }
@@ -160,13 +125,11 @@ impl<'a> Remembered<'a> {
         let blocks = words / block_words() + 1;
         let times = first_times(alloc, blocks)?;
         let firsts = Firsts::new(alloc, words, blocks)?;
-        let words = first_times(alloc, words)?;
         let by_block = first_changes(alloc, blocks)?;
         let compared = none_compared(alloc, module.tables().code.len())?;
         Ok(Remembered {
             module,
             times,
-            words,
             firsts,
             by_block,
             time: 1,
@@ -180,14 +143,12 @@ impl<'a> Remembered<'a> {
         ensures { IfOk result (λ r. IsCopy self.now r) }
     {
         let times = Vec::from_slice(alloc, &self.times)?;
-        let words = Vec::from_slice(alloc, &self.words)?;
         let firsts = self.firsts.copy(alloc)?;
         let by_block = Vec::from_slice(alloc, &self.by_block)?;
         let compared = none_compared(alloc, self.compared.len())?;
         Ok(Remembered {
             module: self.module,
             times,
-            words,
             firsts,
             by_block,
             time: self.time,
@@ -216,17 +177,6 @@ impl<'a> Remembered<'a> {
         self.times[number]
     }
 
-    /// When the word of an index was last written by itself.
-    #[inline(always)]
-    pub(crate) fn written(&self, index: usize) -> u64
-        ensures { result ≡ time_of self.now.words.items index }
-    {
-        if index >= self.words.len() {
-            return 0;
-        }
-        self.words[index]
-    }
-
     /// How the words of a block were changed.
     pub(crate) fn changes(&self, number: usize) -> Changes
         ensures { result ≡ changes_of self.now.by_block.items number }
@@ -237,22 +187,21 @@ impl<'a> Remembered<'a> {
         self.by_block[number]
     }
 
-    /// How all words of a block were left since that is kept.
+    /// How all words of a block were left since one was last written, and since the state became that of a label.
     pub(crate) fn range(&self, number: usize) -> Option<Leaving>
-        ensures { result ≡ leaving_since self.now.began (changes_of self.now.by_block.items number) }
+        ensures { result ≡ leaving_since self.now.began (time_of self.now.times.items number)
+            (changes_of self.now.by_block.items number) }
     {
-        let changes = self.changes(number);
-        if changes.since < self.began {
+        if self.time_of(number) < self.began {
             return None;
         }
-        changes.left
+        self.changes(number).left
     }
 
     /// What is changed from now on is later than all comparisons. If times run out, these are forgotten.
     fn tick(&mut self)
         ensures kept { IsKept self.old self.new }
         ensures times { self.new.times ≡ self.old.times }
-        ensures words { self.new.words ≡ self.old.words }
         ensures firsts { self.new.firsts ≡ self.old.firsts }
         ensures blocks { self.new.by_block ≡ self.old.by_block }
         ensures began { self.new.began ≡ self.old.began }
@@ -267,32 +216,22 @@ impl<'a> Remembered<'a> {
 
     /// The word of an index, which is one of this block, is written by itself.
     fn write(&mut self, index: usize, number: usize)
-        requires word { index < vec_len self.old.words }
+        requires word { index < vec_len self.old.firsts.words }
         requires block { number < vec_len self.old.times }
-        requires is { number ≡ index / block_words }
         ensures { IsPlaced index number self.old self.new }
     {
-        let Changes {
-            since,
-            left,
-            became,
-            ..
-        } = self.changes(number);
         self.tick();
         self.times[number] = self.time;
-        self.words[index] = self.time;
         self.firsts.write(index, self.began, self.time);
         self.by_block[number] = Changes {
             written: self.time,
-            since,
-            left,
-            became,
+            left: None,
         };
     }
 
     /// The word of an index is written by itself.
     pub(crate) fn place(&mut self, index: usize)
-        requires { index < vec_len self.old.words }
+        requires { index < vec_len self.old.firsts.words }
         ensures { IsPlaced index (index / block_words) self.old self.new }
     {
         self.write(index, index / block_words());
@@ -304,51 +243,20 @@ impl<'a> Remembered<'a> {
         ensures { IsLeftSo number leaving self.old self.new }
     {
         let left = leaving.after(self.range(number));
+        let written = self.changes(number).written;
         self.tick();
         self.times[number] = self.time;
         self.firsts.leave(number, self.began, self.time);
-        let Changes {
-            written,
-            since,
-            became: Became { time, fact },
-            ..
-        } = self.by_block[number];
-        let fact = leaving.left_of(fact);
         self.by_block[number] = if leaving.is_widening() {
             Changes {
                 written,
-                since: since.max(self.began),
                 left: Some(left),
-                became: Became { time, fact },
             }
         } else {
             Changes {
-                written,
-                since: self.time,
+                written: self.time,
                 left: None,
-                became: Became {
-                    time: self.time,
-                    fact,
-                },
             }
-        };
-    }
-
-    /// How a block is left is kept from now on, and not since before.
-    pub(crate) fn renew(&mut self, number: usize)
-        requires { number < vec_len self.old.times }
-        ensures { IsRenewed number self.old self.new }
-    {
-        let Changes {
-            written,
-            became,
-            ..
-        } = self.changes(number);
-        self.by_block[number] = Changes {
-            written,
-            since: self.time,
-            left: None,
-            became,
         };
     }
 
@@ -369,7 +277,7 @@ impl<'a> Remembered<'a> {
     pub(crate) fn put(&mut self, offset: usize, paid: u64, is_plain: bool)
         ensures put { IsPut offset paid is_plain self.old self.new }
         ensures len { vec_len self.new.times ≡ vec_len self.old.times }
-        ensures words { vec_len self.new.words ≡ vec_len self.old.words }
+        ensures words { vec_len self.new.firsts.words ≡ vec_len self.old.firsts.words }
     {
         if offset < self.compared.len() {
             self.compared[offset] = Compared {

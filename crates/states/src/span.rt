@@ -1,12 +1,15 @@
 //! Spans of words: what is known of them together, and what is left of what was known.
 
-ghost use Rattle.std.specs.Prelude.{◌≡◌, Some};
+ghost use Rattle.std.specs.Prelude.{◌≡◌, ◌&&◌, Some};
+ghost use Rattle.module_format.specs.declared.fact.Fact.TheVariants.{Number};
+ghost use Rattle.states.specs.Below.{implies};
 ghost use Rattle.states.specs.Rows.{LoopFits};
 ghost use Rattle.states.specs.Spans.{of_none, with_plain, with_one, with_silent, joined, widened, left_of};
 ghost use Rattle.states.specs.Blocks.{left_after, sum_left, is_number, is_unbounded, is_widening};
 ghost use Rattle.states.specs.declared.known.WordFact.TheVariants.{Alone};
 ghost use Rattle.states.specs.declared.span.Leaving.TheVariants.{Widen};
 
+use crate::implication::implies;
 use crate::known::WordFact;
 use module_format::Fact;
 
@@ -70,6 +73,18 @@ impl Together {
         ensures { result ≡ with_one (Alone fact) of_none }
     {
         Together::of_none().with(WordFact::Alone(fact))
+    }
+
+    /// Whether it says what is wanted of each of the words, as it may if all are numbers.
+    #[inline(always)]
+    pub(crate) fn says(self, wanted: Fact) -> bool
+        ensures { result ≡ (self.are_numbers && implies (Number self.lo self.hi) wanted) }
+    {
+        let said = Fact::Number {
+            lo: self.lo,
+            hi: self.hi,
+        };
+        self.are_numbers && implies(said, wanted)
     }
 
     /// Whether there may be no number among the words.

@@ -273,10 +273,9 @@ impl<'a> State<'a> {
         }
     }
 
-    /// The `count` words of the frame from `first` on are summed in blocks of 64 from now on, each block until one of
-    /// its words is written by itself or a label comes. What is known stays what it is. The time grows with the number
-    /// of words in blocks that are not summed, and with the number of blocks. Fewer words than a block's are not
-    /// summed.
+    /// The `count` words of the frame from `first` on are summed from now on, in spans of 8, 64, 512 and 4,096 words that
+    /// lie within them, each span until one of its words is changed or a label comes. What is known stays what it is.
+    /// The time grows with the number of words that are in no span, or in one that is not summed.
     pub fn sum_words(&mut self, first: i32, count: u32)
         ensures state { state_of self.new ≡ state_of self.old }
         ensures belongs { (m : Contents) → BelongsTo m self.old → BelongsTo m self.new }
@@ -285,20 +284,21 @@ impl<'a> State<'a> {
         self.frame.sum(first, count);
     }
 
-    /// What is known of `count` words of the frame from `first` on together. The time grows with the number of blocks
-    /// that are summed, and with the number of the other words.
+    /// What is known of `count` words of the frame from `first` on together. The time grows with the number of spans that
+    /// are summed, and with the number of the other words, or of runs of which the label says the same.
     pub fn together(&self, first: i32, count: u32) -> Together
         ensures { result ≡ together (state_of self.now).frame first count }
     {
         self.frame.together(first, count)
     }
 
-    /// The first word after those of the frame from `first` on, before `end`, that each have this number, which is no
-    /// loop's. Else `first`. Of words that were not changed since the label a row's entry is asked for all in a block of
-    /// 64.
+    /// The first word after some of the frame from `first` on, before `end`, that each have this number, which is no
+    /// loop's. Else `first`. These are words of a block of 64 of which the same is known: all that an entry of the label
+    /// is about where none was written since, and else one.
     pub fn constant_until(&self, first: i64, end: i64, number: i64) -> i64
         requires some { first <ℤ end }
         requires near { end <ℤ pos (2 ^ 40) }
+        ensures within { result ≤ℤ end }
         ensures each { let facts = (state_of self.now).frame in
             (k : ℤ) → first ≤ℤ k → k <ℤ result → holds_constant (facts k) number ≡ true }
         ensures none { result ≤ℤ first → holds_constant ((state_of self.now).frame first) number ≡ false }
@@ -323,8 +323,8 @@ impl<'a> State<'a> {
     }
 
     /// What is paid for the loops that entries want and that are entered. At least what the entries want is known of
-    /// each word, and no loop that they want is half known. `None`: one of these fails, or too many words were changed
-    /// since the last label. The time is as that of `cost_below`.
+    /// each word, and no loop that they want is half known. `None`: one of these fails. The time is as that of
+    /// `cost_of_label`.
     pub fn paid(&mut self, entries: &[Entry]) -> Option<u128>
         requires { AreApart entries.now }
         ensures hold { IfSome result (λ _. entries_hold (state_of self.old).frame entries.now ≡ true) }
@@ -336,7 +336,7 @@ impl<'a> State<'a> {
     }
 
     /// The same, but only the words that no interval has are tested. `None`: an interval has a word of a loop, or one
-    /// of the others fails, or too many words were changed. The time grows with the intervals besides.
+    /// of the others fails. The time grows with the intervals besides.
     pub fn paid_outside(&mut self, entries: &[Entry], intervals: &[Interval]) -> Option<u128>
         requires apart { AreApart entries.now }
         requires order { InOrder IntervalKeeps behind_interval least_word intervals.now }
@@ -352,8 +352,8 @@ impl<'a> State<'a> {
     }
 
     /// Whether at least what entries want is known of each word that an interval has, and no interval has a word of a
-    /// loop that they want. `false`: one of these fails, or too many words were changed. The time grows with the
-    /// entries and the intervals, and as that of `cost_below`.
+    /// loop that they want. `false`: one of these fails. The time grows with the entries and the intervals, and as that
+    /// of `cost_of_label`.
     pub fn holds_inside(&mut self, entries: &[Entry], intervals: &[Interval]) -> bool
         requires apart { AreApart entries.now }
         requires order { InOrder IntervalKeeps behind_interval least_word intervals.now }

@@ -5,7 +5,7 @@ use Rattle.states.proofs.Remembering.{changed-says}
 use Rattle.states.proofs.frame.Frame.changed_say.Goals as goal
 
 pub returns : goal.returns
-returns c =
+returns c = λ _.
     let frame = c.args.self.now in
     changed-says frame.lo frame.remembered.times.items (frame_facts frame) (entry_fact c.args.row.now.entries.items)
     c.args.compared.time

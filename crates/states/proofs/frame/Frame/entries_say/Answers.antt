@@ -5,7 +5,6 @@ use Rattle.states.specs.Blocks.{block_words, first_of}
 use Rattle.states.specs.Frames.{frame_facts}
 use Rattle.states.specs.State.{entry_fact, is_same_number}
 use Rattle.states.proofs.RowFacts.{segment-apart}
-use Rattle.states.proofs.Remembering.{fixed-says}
 use Rattle.states.proofs.SaidWords.{EntrySays, said-more, said-before, block-said, index-in}
 use Rattle.states.proofs.frame.Frame.entries_say.Goals as goal
 
@@ -30,22 +29,14 @@ loop-entry-preserved c =
     let ends = c.end_of.ensures.value in
     let said = rw (to_z-of_z w64 c.max-from.result from_fits, to_z-of_z w64 c.min.result to_fits) at
     c.in_ok-left.ensures in
-    let here : EntrySays (frame_facts frame) row entry first end = λ k low high begun within wanted.
-    elim (said k (omega (arith, ints, clamps, from, starts, low, begun))
-    (omega (arith, ints, clamps, to, ends, high, within))) [
-      | inl h ↦ h
-      | inr known ↦
+    let here : EntrySays (frame_facts frame) row entry first end = λ k low high begun within wanted. elim said [
+      | inl by_range ↦
           let index = index-in frame.lo k c.args.number (omega (arith, ints, first_is, low))
           (omega (arith, ints, first_is, end_is, high)) in
-          elim known [
-            | inl unasked ↦
-                c.asking-asking.ensures.asking row c.requires.known k index.0 index.1 index.2 entry.fact
-                (is_same_number entry.word k) wanted unasked
-            | inr fixed ↦
-                fixed-says (entry_fact frame.row.now) (frame_facts frame) frame.lo frame.remembered
-                c.asking-asking.result.became c.args.number c.asking-asking.ensures.became frame.compared k index.0
-                index.1 index.2 entry.fact (is_same_number entry.word k) fixed
-          ]
+          c.left_since-range.ensures row c.requires.known k index.0 index.1 index.2 entry.fact
+          (is_same_number entry.word k) wanted by_range
+      | inr each ↦
+          each k (omega (arith, ints, clamps, from, starts, low, begun)) (omega (arith, ints, clamps, to, ends, high, within))
     ] in
     record {
       apart = segment-apart c.loop-entry.rest.now entry c.in-Some.later.now c.loop-entry.invariant.apart (search rules);

@@ -7,7 +7,7 @@ use Rattle.states.specs.Frames.{frame_facts, over_facts, with_span}
 use Rattle.states.proofs.BlockSums.{sum-is}
 use Rattle.states.proofs.Leavings.{block-left, summed-left, sum-right}
 use Rattle.states.proofs.Decaying.{left-alike, left-aged}
-use Rattle.states.proofs.Remembering.{block-there, outside-block, remembered-changed, left-held, left-fixed}
+use Rattle.states.proofs.Remembering.{block-there, outside-block, remembered-changed, left-held}
 use Rattle.states.proofs.SpanSums.{all-same, room-below}
 use Rattle.states.proofs.frame.Frame.leave_block.Goals as goal
 use Rattle.states.proofs.frame.Frame.leave_block.Goals.{After-set}
@@ -58,8 +58,6 @@ invariant_of-self-clause-compared c =
     c.leave.new.self c.leave.ensures.changed
     (outside-block frame.lo c.args.number c.args.leaving (frame_facts frame) _ (left-so after))
     (left-held frame.lo c.args.number c.args.leaving (frame_facts frame) _ frame.remembered c.leave.new.self
-    c.leave.ensures (left-so after))
-    (left-fixed frame.lo c.args.number c.args.leaving (frame_facts frame) _ frame.remembered c.leave.new.self
     c.leave.ensures (left-so after))
     (left-alike frame.lo c.args.number c.args.leaving frame.remembered c.leave.new.self c.leave.ensures)
     (left-aged (entry_fact frame.row.now) (frame_facts frame) _ frame.lo c.args.number c.args.leaving frame.remembered

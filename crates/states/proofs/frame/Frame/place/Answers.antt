@@ -9,7 +9,7 @@ use Rattle.states.proofs.FrameFacts.{facts_over-write, distance}
 use Rattle.states.proofs.BlockSums.{summed-write}
 use Rattle.states.proofs.Leavings.{word-placed}
 use Rattle.states.proofs.Decaying.{placed-alike, placed-aged}
-use Rattle.states.proofs.Remembering.{outside-word, remembered-changed, placed-held, placed-fixed}
+use Rattle.states.proofs.Remembering.{outside-word, remembered-changed, placed-held}
 use Rattle.states.proofs.SpanSums.{all-same, all-but}
 use Rattle.states.proofs.frame.Frame.place.Goals as goal
 use Rattle.states.proofs.frame.Frame.place.Goals.{After-forget}
@@ -75,14 +75,12 @@ invariant_of-self-clause-compared c =
     let frame = c.settle.new.self in
     let index = c.abs_diff-index.result in
     let after = (goal.at.invariant_of-self-clause-compared c).After-forget in
+    let far = outside-word frame.lo c.args.word index (index / block_words) c.args.fact (frame_facts frame) _
+    (placed after) (word-is after) refl in
     remembered-changed (entry_fact frame.row.now) (frame_facts frame) _ frame.lo (index / block_words) frame.remembered
-    c.place.new.self c.place.ensures.changed
-    (outside-word frame.lo c.args.word index (index / block_words) c.args.fact (frame_facts frame) _
-    (placed after) (word-is after) refl)
-    (placed-held frame.lo c.args.word index (index / block_words) c.args.fact (frame_facts frame) _ frame.remembered
-    c.place.new.self c.place.ensures (placed after) (word-is after))
-    (placed-fixed frame.lo c.args.word index (index / block_words) c.args.fact (frame_facts frame) _ frame.remembered
-    c.place.new.self c.place.ensures (placed after) (word-is after))
+    c.place.new.self c.place.ensures.changed far
+    (placed-held frame.lo index (index / block_words) (frame_facts frame) _ frame.remembered c.place.new.self
+    c.place.ensures far)
     (placed-alike frame.lo index (index / block_words) frame.remembered c.place.new.self c.place.ensures)
     (placed-aged (entry_fact frame.row.now) (frame_facts frame) _ frame.lo c.args.word index (index / block_words)
     c.args.fact frame.remembered c.place.new.self c.place.ensures (placed after) (word-is after))

@@ -6,4 +6,4 @@ pub write-requires-clause-block : goal.write-requires-clause-block
 write-requires-clause-block c =
     let kept = c.args.self.now in
     rw c.block_words.ensures.value
-    (time-there (vec_len kept.words) (vec_len kept.times) c.args.index c.requires kept.timed)
+    (time-there (vec_len kept.firsts.words) (vec_len kept.times) c.args.index c.requires kept.timed)
