@@ -1,31 +1,36 @@
 -- What is written where a walk is.
-use Rattle.std.proofs.Common.{◌≡◌, ◌∙◌, ℕ, ◌+◌, ◌<◌, ◌≤◌, ◌++◌, length, Option, Ok, sym, ap}
-use Rattle.std.proofs.Common.{subst, Result, Err, OnOk}
+use Rattle.std.proofs.Common.{◌≡◌, ◌≢◌, ◌∙◌, ℕ, ◌+◌, ◌-◌, ◌<◌, ◌≤◌, ◌++◌, length, Option, Some, None, Ok, sym, ap, refl}
+use Rattle.std.proofs.Common.{subst, Result, Err, IfOk, Bool, true, false, arith}
+use Rattle.std.specs.Prelude.{is_some}
 use Rattle.prefix_decoder.specs.Fetching.{fetched}
 use Rattle.module_format.specs.Contents.{Contents}
 use Rattle.states.specs.declared.rule.Rule.{Rule}
+use Rattle.states.specs.declared.rule.Rule.TheVariants as rules
 use Rattle.states.specs.State.{State}
 use Rattle.certified_worlds.specs.Certified.{state_at}
 use Rattle.verifier.specs.declared.stop.Breach.{Breach}
 use Rattle.verifier.specs.declared.walk.Walk.{Walk}
 use Rattle.verifier.specs.declared.walk.Arrival.{Arrival}
-use Rattle.verifier.specs.Judge.{Verdict, verdict, refused}
+use Rattle.verifier.specs.Judge.{Verdict, verdict, refused, at_the_end}
 use Rattle.verifier.specs.Walking.{OnTheWay, walked, before_of, Arrives, IsUnspelled, HasGoneOn, Breaks, by_rule}
 use Rattle.verifier.specs.Walking.{by_start}
-use Rattle.verifier.proofs.Walks.{HasEntered, breaks_there, way_breaks}
+use Rattle.verifier.proofs.Walks.{HasEntered, breaks_there, start_is_beyond, way_breaks, way_misspelled, way_ended}
 use Rattle.fact_texts.specs.Texts.{Text}
 use Rattle.state_texts.specs.declared.settings.Setting.{Setting}
 use Rattle.sentences.specs.Sights.{sight_text, setting_after, hidden_text, unspelled_text, ended_text}
+use Rattle.explanations.specs.declared.explaining.Told.{Told}
 use Rattle.explanations.specs.Explaining.{explanation, last_text, Explains, IsElsewhere}
+use Rattle.explanations.specs.Telling.{IsKnown, IsTold, TellsBreach}
 use Rattle.explanations.proofs.Explains.{ends_unspelled, ends_there, ends_broken, ends_hidden, goes_on}
 
--- what follows where there is no error
-pub on_ok : {T E P Q : Type 0} (result : Result T E) → OnOk result P → (P → Q) → OnOk result Q
-on_ok (Ok value) holds follows = follows holds
-on_ok (Err error) holds follows = tt
+-- what follows of what is returned, where there is no error
+pub if_ok : {T E : Type 0} {P Q : T → Type 0} (result : Result T E) → IfOk result P → ((value : T) → P value → Q value)
+    → IfOk result Q
+if_ok (Ok value) holds follows = follows value holds
+if_ok (Err error) holds follows = tt
 
 -- no instruction is spelled there
-pub unspelled_here : (m : Contents) (w : Walk) (written text : Text) (at : ℕ) (setting : Setting) → walked w ≡ m
+unspelled_here : (m : Contents) (w : Walk) (written text : Text) (at : ℕ) (setting : Setting) → walked w ≡ m
     → Explains m written w.at (before_of w) setting → IsUnspelled w → at ≡ w.at
     → text ≡ written ++ unspelled_text m at → text ≡ explanation m
 unspelled_here m w written text at setting same e u there is =
@@ -35,7 +40,7 @@ unspelled_here m w written text at setting same e u there is =
     (is ∙ ap (λ (o : ℕ). written ++ unspelled_text m o) there)
 
 -- the code ends there
-pub ended_here : (m : Contents) (old new : Walk) (written text : Text) (at : ℕ) (sighted : Option State)
+ended_here : (m : Contents) (old new : Walk) (written text : Text) (at : ℕ) (sighted : Option State)
     (setting : Setting) → walked old ≡ m → Explains m written old.at (before_of old) setting
     → (length (walked old).code ≤ old.at) × (new ≡ old) → at ≡ old.at → sighted ≡ before_of new
     → text ≡ written ++ ended_text m at sighted → text ≡ explanation m
@@ -46,12 +51,11 @@ ended_here m old new written text at sighted setting same e ended there seen is 
     ∙ ap (λ (s : Option State). written ++ ended_text m old.at s) (seen ∙ ap before_of ended.1))
 
 -- the module is refused there
-pub last_here : (m : Contents) (old arrived : Walk) (a : Arrival) (written text : Text) (setting : Setting)
-    (judged : Verdict) (rule : Rule) (at : ℕ) → walked old ≡ m → OnTheWay m old.at (before_of old)
-    → Explains m written old.at (before_of old) setting → Arrives old a arrived → judged ≡ verdict m
-    → judged ≡ refused rule at → at ≡ old.at
+last_here : (m : Contents) (old arrived : Walk) (a : Arrival) (written text : Text) (setting : Setting) (rule : Rule)
+    → walked old ≡ m → OnTheWay m old.at (before_of old) → Explains m written old.at (before_of old) setting
+    → Arrives old a arrived → verdict m ≡ refused rule old.at
     → text ≡ written ++ last_text m a.at a.instr (before_of arrived) setting rule → text ≡ explanation m
-last_here m old arrived a written text setting judged rule at same way e arr told broken there is =
+last_here m old arrived a written text setting rule same way e arr refusal is =
     let whole : walked arrived ≡ m = arr.same ∙ same in
     let low : old.at < length m.code =
     subst (λ (o : ℕ). o < length m.code) arr.at
@@ -59,7 +63,6 @@ last_here m old arrived a written text setting judged rule at same way e arr tol
     let spelled : fetched m.code old.at ≡ Ok a.instr =
     ap (λ (o : ℕ). fetched m.code o) (sym arr.at) ∙ ap (λ (c : Contents). fetched c.code a.at) (sym whole)
     ∙ arr.arrived.spelled in
-    let refusal : verdict m ≡ refused rule old.at = sym told ∙ broken ∙ ap (λ (o : ℕ). refused rule o) there in
     ends_broken m written old.at (before_of old) setting a.instr e low spelled rule text
     (breaks_there m old.at (before_of old) a.instr rule arr.arrived.some low way spelled refusal)
     (is ∙ ap (λ (o : ℕ). written ++ last_text m o a.instr (before_of arrived) setting rule) arr.at
@@ -74,23 +77,99 @@ sight_here m at place before sighted reached written seen setting there same sta
     is ∙ ap (λ (o : ℕ). written ++ sight_text m o setting sighted) there
     ∙ ap (λ (s : Option State). written ++ sight_text m at setting s) (same ∙ state)
 
--- a start lies within the instruction
-pub hidden_here : (m : Contents) (old entered : Walk) (a : Arrival) (breach : Breach) (written seen text : Text)
-    (setting : Setting) (judged : Verdict) (at : ℕ) (sighted : Option State) → OnTheWay m old.at (before_of old)
-    → Explains m written old.at (before_of old) setting → HasEntered m old.at (before_of old) a entered
-    → judged ≡ verdict m → IsElsewhere judged at → at ≡ old.at → sighted ≡ before_of entered
-    → seen ≡ written ++ sight_text m at setting sighted → Breaks entered a breach
-    → text ≡ seen ++ hidden_text at breach.offset → text ≡ explanation m
-hidden_here m old entered a breach written seen text setting judged at sighted way e has told elsewhere there same sight
-    (by_rule {rule = rule} broken) is =
-    absurd (elsewhere rule
-    (told ∙ way_breaks m old.at (before_of old) entered a (record { rule = rule; offset = a.at }) way has
-    (by_rule broken) ∙ ap (λ (o : ℕ). refused rule o) (has.there ∙ sym there)))
-hidden_here m old entered a breach written seen text setting judged at sighted way e has told elsewhere there same sight
-    (by_start {inside = inside} {after = after} ok start) is =
-    ends_hidden m written old.at (before_of old) setting a.instr e has.inside has.spelled after (sym has.judged ∙ ok)
-    seen (sight_here m old.at at (before_of old) sighted (before_of entered) written seen setting there same has.reached
-    sight) inside text (sym has.start ∙ start) (is ∙ ap (λ (o : ℕ). seen ++ hidden_text o inside) there)
+-- ---- what is told where the walk ends
+
+-- no instruction is spelled there
+pub told_unspelled : (m : Contents) (old new : Walk) (written text : Text) (at : ℕ) (setting : Setting)
+    (known : Option Breach) (told : Told) → walked old ≡ m → OnTheWay m old.at (before_of old)
+    → Explains m written old.at (before_of old) setting → IsUnspelled old × (new ≡ old) → at ≡ old.at
+    → (text ≡ written ++ unspelled_text m at) × (told ≡ record { judged = refused rules.Spelling at; is_whole = true })
+    → IsTold m known text told
+told_unspelled m old new written text at setting known told same way e there place is = record {
+  judged = ap (λ (t : Told). t.judged) is.1
+      ∙ sym (way_misspelled m old new at (record { rule = rules.Spelling; offset = at }) same way there
+      (place ∙ ap (λ (w : Walk). w.at) (sym there.1)) refl);
+  whole = λ _. unspelled_here m old written text at setting same e there.0 place is.0;
+  known = λ _. ap (λ (t : Told). t.is_whole) is.1;
+}
+
+-- the code ends there
+pub told_ended : (m : Contents) (old new : Walk) (written text : Text) (at : ℕ) (setting : Setting)
+    (known : Option Breach) (told : Told) → walked old ≡ m → OnTheWay m old.at (before_of old)
+    → Explains m written old.at (before_of old) setting
+    → (length (walked old).code ≤ old.at) × (new ≡ old) → at ≡ old.at
+    → (text ≡ written ++ ended_text m at (before_of new))
+    × (told ≡ record { judged = at_the_end new.at (before_of new); is_whole = true })
+    → IsTold m known text told
+told_ended m old new written text at setting known told same way e ended place is = record {
+  judged = ap (λ (t : Told). t.judged) is.1 ∙ sym (way_ended m old new same way ended);
+  whole = λ _. ended_here m old new written text at (before_of new) setting same e ended place refl is.0;
+  known = λ _. ap (λ (t : Told). t.is_whole) is.1;
+}
+
+-- what is known of the verdict is so
+known_so : (m : Contents) (known : Option Breach) (breach : Breach) → IsKnown m known → known ≡ Some breach
+    → verdict m ≡ Err breach
+known_so m known breach so is = subst (λ (k : Option Breach). IsKnown m k) is so
+
+-- it is known that the module is refused there
+pub told_last : (m : Contents) (old arrived : Walk) (a : Arrival) (written text : Text) (setting : Setting)
+    (known : Option Breach) (rule : Rule) (at : ℕ) (told : Told) → walked old ≡ m → OnTheWay m old.at (before_of old)
+    → Explains m written old.at (before_of old) setting → Arrives old a arrived → IsKnown m known
+    → known ≡ Some (record { rule = rule; offset = at }) → at ≡ old.at
+    → (text ≡ written ++ last_text m a.at a.instr (before_of arrived) setting rule)
+    × (told ≡ record { judged = refused rule a.at; is_whole = true }) → IsTold m known text told
+told_last m old arrived a written text setting known rule at told same way e arr so broken place is =
+    let refusal : verdict m ≡ refused rule old.at =
+    known_so m known (record { rule = rule; offset = at }) so broken ∙ ap (λ (o : ℕ). refused rule o) place in
+    record {
+      judged = ap (λ (t : Told). t.judged) is.1 ∙ ap (λ (o : ℕ). refused rule o) arr.at ∙ sym refusal;
+      whole = λ _. last_here m old arrived a written text setting rule same way e arr refusal is.0;
+      known = λ _. ap (λ (t : Told). t.is_whole) is.1;
+    }
+
+-- where the rule is broken by the instruction, nothing was known of that
+unknown_here : (m : Contents) (known : Option Breach) (rule : Rule) (at : ℕ) (b : Bool) → IsKnown m known
+    → IsElsewhere known at → verdict m ≡ refused rule at → is_some known ≡ true → b ≡ true
+unknown_here m None rule at b so elsewhere told some = absurd (cc)
+unknown_here m (Some breach) rule at b so elsewhere told some =
+    let same : ◌≡◌ {A = Verdict} (Err breach) (refused rule at) = sym so ∙ told in
+    let is : breach ≡ record { rule = rule; offset = at } = cc in
+    absurd (elsewhere rule (ap (λ (x : Breach). Some x) is))
+
+pub told_breach : (m : Contents) (old entered : Walk) (a : Arrival) (breach : Breach) (written seen text : Text)
+    (setting : Setting) (known : Option Breach) (at : ℕ) (sighted : Option State) (told : Told)
+    → OnTheWay m old.at (before_of old) → Explains m written old.at (before_of old) setting
+    → HasEntered m old.at (before_of old) a entered → IsKnown m known → IsElsewhere known at → at ≡ old.at
+    → sighted ≡ before_of entered → seen ≡ written ++ sight_text m at setting sighted → Breaks entered a breach
+    → TellsBreach seen text at breach told → IsTold m known text told
+told_breach m old entered a breach written seen text setting known at sighted told way e has so elsewhere there same
+    sight (by_rule {rule = rule} broken) tells =
+    let is = tells.here (has.there ∙ sym there) in
+    let refusal : verdict m ≡ refused rule a.at =
+    way_breaks m old.at (before_of old) entered a (record { rule = rule; offset = a.at }) way has (by_rule broken) in
+    let part : told.is_whole ≡ false = ap (λ (t : Told). t.is_whole) is in
+    record {
+      judged = ap (λ (t : Told). t.judged) is ∙ sym refusal;
+      whole = λ yes. (let clash : false ≡ true = sym part ∙ yes in absurd (cc));
+      known = unknown_here m known rule at told.is_whole so elsewhere
+          (refusal ∙ ap (λ (o : ℕ). refused rule o) (has.there ∙ sym there));
+    }
+told_breach m old entered a breach written seen text setting known at sighted told way e has so elsewhere there same
+    sight (by_start {inside = inside} {after = after} ok start) tells =
+    let starts = sym has.start ∙ start in
+    let low = start_is_beyond m (old.at + 1) (a.instr.len - 1) inside starts in
+    let is = tells.beyond (λ clash. absurd (omega (arith, low, clash, there))) in
+    record {
+      judged = ap (λ (t : Told). t.judged) is.1
+          ∙ sym (way_breaks m old.at (before_of old) entered a
+          (record { rule = rules.InstructionStart; offset = inside }) way has (by_start ok start));
+      whole = λ _. ends_hidden m written old.at (before_of old) setting a.instr e has.inside has.spelled after
+          (sym has.judged ∙ ok) seen
+          (sight_here m old.at at (before_of old) sighted (before_of entered) written seen setting there same has.reached
+          sight) inside text starts (is.0 ∙ ap (λ (o : ℕ). seen ++ hidden_text o inside) there);
+      known = λ _. ap (λ (t : Told). t.is_whole) is.1;
+    }
 
 -- the walk goes on
 pub goes_on_here : (m : Contents) (old entered new : Walk) (a : Arrival) (written seen : Text)

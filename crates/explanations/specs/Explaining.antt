@@ -9,7 +9,8 @@ use Rattle.states.specs.declared.known.Mode.TheVariants.{Plain}
 use Rattle.states.specs.declared.rule.Rule.{Rule}
 use Rattle.states.specs.State.{State, root_state}
 use Rattle.certified_worlds.specs.Certified.{state_at, entering}
-use Rattle.verifier.specs.Judge.{Verdict, refused, judged_at, start_among}
+use Rattle.verifier.specs.declared.stop.Breach.{Breach}
+use Rattle.verifier.specs.Judge.{judged_at, start_among}
 use Rattle.fact_texts.specs.Texts.{Text}
 use Rattle.state_texts.specs.declared.settings.Setting.{Setting}
 use Rattle.sentences.specs.Sights.{sight_text, setting_after, is_at_entry, breach_text, hidden_text, unspelled_text}
@@ -58,9 +59,9 @@ root_setting = record { context = 0; depth = pos 0; mode = Plain }
 abbrev pub explanation : Contents → Text
 explanation m = explained (length m.code) m 0 (Some (root_state m)) root_setting
 
--- the module is not refused at the offset
-abbrev pub IsElsewhere : Verdict → ℕ → Type 0
-IsElsewhere judged at = (rule : Rule) → judged ≡ refused rule at → ⊥
+-- it is not known that the module is refused at the offset
+abbrev pub IsElsewhere : Option Breach → ℕ → Type 0
+IsElsewhere known at = (rule : Rule) → known ≡ Some (record { rule = rule; offset = at }) → ⊥
 
 -- What is written goes up to an offset into which this state falls, where the setting before is this one.
 pub record Explains (m : Contents) (written : Text) (at : ℕ) (before : Option State) (setting : Setting) : Type 0 where

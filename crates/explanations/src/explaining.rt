@@ -1,10 +1,15 @@
 //! The explanation of the verdict on a module.
 
-ghost use Rattle.std.specs.Prelude.{◌≡◌, ◌++◌, [], IfOk, OnOk, MatchOption, Err, string_bytes, if◌then◌else◌};
+ghost use Rattle.std.specs.Prelude.{◌≡◌, ◌<◌, ◌^◌, ◌++◌, [], true, IfOk, OnOk, MatchOption, Some};
+ghost use Rattle.std.specs.Prelude.{string_bytes, if◌then◌else◌};
+ghost use Rattle.module_format.specs.Keeping.{Keeps};
+ghost use Rattle.states.specs.declared.rule.Rule.TheVariants.{Spelling};
 ghost use Rattle.certified_worlds.specs.Certified.{entering, state_at};
-ghost use Rattle.verifier.specs.Judge.{verdict};
+ghost use Rattle.sentences.specs.Sights.{hidden_text, unspelled_text, ended_text};
+ghost use Rattle.verifier.specs.Judge.{verdict, refused, at_the_end};
 ghost use Rattle.verifier.specs.Walking.{before_of, walked, HasArrived, IsBegun};
 ghost use Rattle.explanations.specs.Explaining.{explanation, last_text, root_setting, IsElsewhere};
+ghost use Rattle.explanations.specs.Telling.{IsKnown, IsTold, TellsBreach};
 
 use certificate::Module;
 use sentences::{
@@ -14,7 +19,7 @@ use sentences::{
 use state_texts::Setting;
 use states::{Mode, Rule};
 use std::alloc::{AllocError, Global};
-use verifier::{Arrival, Breach, Place, Walk};
+use verifier::{Arrival, Breach, Place, Walk, broken};
 
 /// The setting of the root.
 fn root_setting() -> Setting
@@ -27,12 +32,13 @@ fn root_setting() -> Setting
     }
 }
 
-/// The rule that is broken at an offset, if the module is refused there.
-fn rule_at(judged: Result<(), Breach>, at: usize) -> Option<Rule>
-    ensures { MatchOption result (IsElsewhere judged at) (λ rule. judged ≡ Err (record { rule = rule; offset = at })) }
+/// The rule that is broken at an offset, if it is known that the module is refused there.
+fn rule_at(known: Option<Breach>, at: usize) -> Option<Rule>
+    ensures { MatchOption result (IsElsewhere known at)
+        (λ rule. known ≡ Some (record { rule = rule; offset = at })) }
 {
-    match judged {
-        Err(breach) if breach.offset as usize == at => Some(breach.rule),
+    match known {
+        Some(breach) if breach.offset as usize == at => Some(breach.rule),
         _ => None,
     }
 }
@@ -83,51 +89,164 @@ fn push_last<'a>(
     Ok(())
 }
 
-/// Appends what is known at each instruction, up to the first rule that is broken.
-fn push_explanation<'a>(
+/// What a walk comes to that tells what is known.
+#[derive(Clone, Copy)]
+pub(crate) struct Told {
+    /// The verdict.
+    pub judged: Result<(), Breach>,
+    /// Whether the explanation is written. Else the rule is broken by the last instruction, which is written as if it
+    /// broke none.
+    pub is_whole: bool,
+}
+
+impl Told {
+    /// The explanation of this verdict is written.
+    fn whole(judged: Result<(), Breach>) -> Self
+        ensures { result ≡ record { judged = judged; is_whole = true } }
+    {
+        Told {
+            judged,
+            is_whole: true,
+        }
+    }
+}
+
+/// Appends that no instruction is spelled at an offset.
+fn tell_unspelled(
+    alloc: Global,
+    text: &mut String,
+    module: &Module,
+    at: usize,
+) -> Result<Told, AllocError>
+    requires { at < 2 ^ 32 }
+    ensures { IfOk result (λ told. (string_bytes text.new ≡ string_bytes text.old ++ unspelled_text «module».now at)
+        × (told ≡ record { judged = refused Spelling at; is_whole = true })) }
+{
+    push_unspelled(alloc, text, module, at)?;
+    Ok(Told::whole(Err(broken(Rule::Spelling, at))))
+}
+
+/// Appends what is known where the code ends.
+fn tell_end(text: &mut String, module: &Module, at: usize, walk: &Walk) -> Result<Told, AllocError>
+    requires few { walk.now.at < 2 ^ 32 }
+    ensures { let before = before_of walk.now in
+        IfOk result (λ told. (string_bytes text.new ≡ string_bytes text.old ++ ended_text «module».now at before)
+        × (told ≡ record { judged = at_the_end walk.now.at before; is_whole = true })) }
+{
+    push_end(text, module, at, walk.state())?;
+    Ok(Told::whole(walk.ended()))
+}
+
+/// Appends the instruction that breaks the rule, the state that breaks it, and why.
+fn tell_last<'a>(
+    alloc: Global,
+    text: &mut String,
+    module: &Module,
+    walk: &mut Walk<'a>,
+    arrival: &Arrival<'a>,
+    setting: Setting,
+    rule: Rule,
+) -> Result<Told, AllocError>
+    requires arrived { HasArrived arrival.now walk.old }
+    requires same { walked walk.old ≡ «module».now }
+    requires entered { arrival.now.entered ≡ entering «module».now arrival.now.at (before_of walk.old) }
+    ensures { let before = before_of walk.old in IfOk result (λ told. (string_bytes text.new
+        ≡ string_bytes text.old ++ last_text «module».now arrival.now.at arrival.now.instr before setting rule)
+        × (told ≡ record { judged = refused rule arrival.now.at; is_whole = true })) }
+{
+    push_last(alloc, text, module, walk, arrival, setting, rule)?;
+    Ok(Told::whole(Err(broken(rule, arrival.at))))
+}
+
+/// Appends that a start lies within the instruction at an offset, if that is the rule that it breaks.
+fn tell_breach(text: &mut String, at: usize, breach: Breach) -> Result<Told, AllocError>
+    ensures { IfOk result (TellsBreach (string_bytes text.old) (string_bytes text.new) at breach) }
+{
+    let inside = breach.offset as usize;
+    if inside == at {
+        return Ok(Told {
+            judged: Err(breach),
+            is_whole: false,
+        });
+    }
+    push_hidden(text, at, inside)?;
+    Ok(Told::whole(Err(breach)))
+}
+
+/// Appends what is known at each instruction, up to the first rule that is broken. The instruction that breaks it is told
+/// as such only if it is known where the module is refused: the state is changed in part when it is found out.
+fn tell<'a>(
     alloc: Global,
     text: &mut String,
     module: &'a Module<'a>,
     walk: &mut Walk<'a>,
-    judged: Result<(), Breach>,
-) -> Result<(), AllocError>
+    known: Option<Breach>,
+) -> Result<Told, AllocError>
     requires empty { string_bytes text.old ≡ [] }
     requires begun { IsBegun «module».now walk.old }
-    requires judged { judged ≡ verdict «module».now }
-    ensures { OnOk result (string_bytes text.new ≡ explanation «module».now) }
+    requires kept { Keeps «module».now }
+    requires known { IsKnown «module».now known }
+    ensures { IfOk result (IsTold «module».now known (string_bytes text.new)) }
 {
     let mut setting = root_setting();
     loop {
         let at = walk.offset();
         let arrival = match walk.arrive() {
             Place::Instruction(arrival) => arrival,
-            Place::Unspelled => return push_unspelled(alloc, text, module, at),
-            Place::End => return push_end(text, module, at, walk.state()),
+            Place::Unspelled => return tell_unspelled(alloc, text, module, at),
+            Place::End => return tell_end(text, module, at, walk),
         };
-        if let Some(rule) = rule_at(judged, at) {
-            return push_last(alloc, text, module, walk, &arrival, setting, rule);
+        if let Some(rule) = rule_at(known, at) {
+            return tell_last(alloc, text, module, walk, &arrival, setting, rule);
         }
         walk.enter(&arrival);
         let reached = walk.state();
         push_sight(alloc, text, module, at, setting, reached)?;
         setting = setting_after(setting, reached);
         if let Err(breach) = walk.go_on(&arrival)? {
-            return push_hidden(text, at, breach.offset as usize);
+            return tell_breach(text, at, breach);
         }
     }
 }
 
-/// The explanation of the verdict on a module.
-pub fn explanation<'a>(
+/// The explanation of the verdict on a module, and the verdict.
+#[derive(Drop)]
+pub struct Explained {
+    pub text: String,
+    pub judged: Result<(), Breach>,
+}
+
+/// What one walk tells, and how far that is all.
+fn told_by_a_walk<'a>(
     alloc: Global,
     module: &'a Module<'a>,
-    judged: Result<(), Breach>,
-) -> Result<String, AllocError>
-    requires { judged ≡ verdict «module».now }
-    ensures { IfOk result (λ text. string_bytes text ≡ explanation «module».now) }
+    known: Option<Breach>,
+) -> Result<(String, Told), AllocError>
+    requires { IsKnown «module».now known }
+    ensures kept { Keeps «module».now }
+    ensures told { IfOk result (λ both. IsTold «module».now known (string_bytes both.0) both.1) }
 {
     let mut text = String::new(alloc);
     let mut walk = Walk::begin(alloc, module)?;
-    push_explanation(alloc, &mut text, module, &mut walk, judged)?;
-    Ok(text)
+    let told = tell(alloc, &mut text, module, &mut walk, known)?;
+    Ok((text, told))
+}
+
+/// The explanation of the verdict on a module, and the verdict. One walk tells both, unless the module is refused for
+/// what an instruction does: then a second one goes that far again.
+pub fn explanation<'a>(alloc: Global, module: &'a Module<'a>) -> Result<Explained, AllocError>
+    ensures kept { Keeps «module».now }
+    ensures text { IfOk result (λ e. string_bytes e.text ≡ explanation «module».now) }
+    ensures judged { IfOk result (λ e. e.judged ≡ verdict «module».now) }
+{
+    let (text, told) = told_by_a_walk(alloc, module, None)?;
+    let judged = told.judged;
+    if told.is_whole {
+        return Ok(Explained { text, judged });
+    }
+    let (text, told) = told_by_a_walk(alloc, module, judged.err())?;
+    Ok(Explained {
+        text,
+        judged: told.judged,
+    })
 }

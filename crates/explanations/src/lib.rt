@@ -4,5 +4,5 @@
 mod explaining;
 mod laws;
 
-pub use explaining::explanation;
+pub use explaining::{Explained, explanation};
 pub use laws::explanations_tell_the_verdict;

@@ -3,17 +3,7 @@
 use certificate::Module;
 use conformance::{Answer, Outcome, judged};
 use explanations::explanation;
-use std::alloc::{AllocError, Global};
-use verifier::{Stop, judge_code};
-
-/// The explanation of the verdict on a module.
-fn text_of<'a>(alloc: Global, module: &'a Module<'a>) -> Result<String, AllocError> {
-    match judge_code(alloc, module) {
-        Ok(()) => explanation(alloc, module, Ok(())),
-        Err(Stop::Broken(breach)) => explanation(alloc, module, Err(breach)),
-        Err(Stop::Memory) => Err(AllocError),
-    }
-}
+use std::alloc::Global;
 
 /// The last line of a text, without its line feed.
 fn last_line(text: &str) -> &str {
@@ -31,9 +21,9 @@ pub(crate) fn sentence<'a>(
     expected: &str,
     out: &mut Answer,
 ) -> Outcome {
-    match text_of(alloc, module) {
-        Ok(text) => {
-            out.put(last_line(text.as_str()));
+    match explanation(alloc, module) {
+        Ok(explained) => {
+            out.put(last_line(explained.text.as_str()));
             judged(out, expected)
         }
         Err(_) => Outcome::OutOfMemory,

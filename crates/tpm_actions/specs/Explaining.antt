@@ -118,10 +118,6 @@ IsUnread bytes question fault (failures.Explained refusal text) =
     ExplainsFault bytes question fault refusal (string_bytes text)
 IsUnread bytes question fault failure = ⊥
 
--- memory ran out for the verdict
-abbrev pub starved : Failure
-starved = failures.Uncertified out_of_memory
-
 -- why the text of an explanation is not all that is left of it: memory ran out for it, or a refusal goes with it
 abbrev pub WithholdsExplanation : Contents → Failure → Type 0
 WithholdsExplanation m (failures.Malformed fault) = ⊥

@@ -1,11 +1,9 @@
 //! The explanation of the verdict on a module, of why a file is none, or of a source.
 
 ghost use Rattle.std.specs.Prelude.{◌≡◌, false, IfOk, MatchResult, string_bytes};
-ghost use Rattle.module_format.specs.Keeping.{Keeps};
-ghost use Rattle.verifier.specs.Judge.{verdict};
 ghost use Rattle.compiler.specs.Compiled.{IsRefusedFor};
 ghost use Rattle.tpm_actions.specs.Extents.{begins_as_module};
-ghost use Rattle.tpm_actions.specs.Explaining.{starved, IsExplained, malformed_text, IsUnread, IsSourceExplained};
+ghost use Rattle.tpm_actions.specs.Explaining.{IsExplained, malformed_text, IsUnread, IsSourceExplained};
 ghost use Rattle.tpm_actions.specs.Explaining.{WithholdsExplanation, EndsAsCorrect, EndsWithReason, is_ended, line_count, WithholdsSource};
 
 use crate::refused::{RefusedSource, reason_text};
@@ -13,7 +11,7 @@ use crate::report::{Failure, RefusedFor};
 use certificate::Module;
 use command_line::Question;
 use compiler::{CompileFault, compile, ends_in};
-use explanations::explanation;
+use explanations::{Explained, explanation};
 use file_faults::push_file_fault;
 use known_lines::known_lines;
 use module_builder::GenFault;
@@ -21,20 +19,7 @@ use module_format::{FormatFault, MEMORY};
 use occam_layout::lines;
 use occam_parser::parse;
 use std::alloc::{AllocError, Global};
-use verifier::{Breach, Refusal, Stop, judge_code, verdict_is_right};
-
-/// The verdict on a module. It is a failure only if memory runs out.
-fn judged<'a>(alloc: Global, module: &Module<'_>) -> Result<Result<(), Breach>, Failure<'a>>
-    ensures judged { MatchResult result (λ judged. judged ≡ verdict «module».now)
-        (λ failure. failure ≡ starved) }
-    ensures kept { Keeps «module».now }
-{
-    match judge_code(alloc, module) {
-        Ok(()) => Ok(Ok(())),
-        Err(Stop::Broken(breach)) => Ok(Err(breach)),
-        Err(Stop::Memory) => Err(Failure::Uncertified(Refusal::from(Stop::Memory))),
-    }
-}
+use verifier::{Refusal, Stop, verdict_is_right};
 
 /// The explanation of the verdict on a module: by itself if the module is certified, else with the refusal.
 pub fn explain<'a>(alloc: Global, module: &Module<'_>) -> Result<String, Failure<'a>>
@@ -42,8 +27,7 @@ pub fn explain<'a>(alloc: Global, module: &Module<'_>) -> Result<String, Failure
         (WithholdsExplanation «module».now) }
 {
     verdict_is_right();
-    let judged = judged(alloc, module)?;
-    let text = explanation(alloc, module, judged)?;
+    let Explained { text, judged } = explanation(alloc, module)?;
     match judged {
         Ok(()) => Ok(text),
         Err(breach) => Err(Failure::Explained {

@@ -17,7 +17,7 @@ use Rattle.certified_worlds.specs.Certified.{entering, state_at}
 use Rattle.verifier.specs.declared.stop.Breach.{Breach}
 use Rattle.verifier.specs.Judge.{Verdict, judged_once, judged_at, judge, verdict, refused, start_among, at_the_end}
 use Rattle.verifier.specs.Judge.{past_starts, past_rule, past_spelling}
-use Rattle.std.specs.Prelude.{option_map, is_some, ⊤}
+use Rattle.std.specs.Prelude.{⊤}
 use Rattle.verifier.specs.declared.walk.Walk.{Walk}
 use Rattle.verifier.specs.declared.walk.Arrival.{Arrival}
 use Rattle.verifier.specs.Walking.{OnTheWay, walked, before_of, judged_of, start_in, IsBegun, HasArrived, Arrives}
@@ -37,7 +37,7 @@ judged_there m at before reached i entered e r =
 
 -- ---- no rule that the verdict names lies before the rest of the code
 
-start_is_beyond : (m : Contents) (at more o : ℕ) → start_among m at more ≡ Some o → at ≤ o
+pub start_is_beyond : (m : Contents) (at more o : ℕ) → start_among m at more ≡ Some o → at ≤ o
 start_is_beyond m at zero o h = absurd (cc)
 start_is_beyond m at (suc more) o h = elim (cases_Bool (is_start m at)) [
   | inl l ↦
@@ -285,19 +285,3 @@ pub way_ended : (m : Contents) (old new : Walk) → walked old ≡ m → OnTheWa
 way_ended m old new is w e =
     ended-is m old.at (before_of old) (subst (λ (c : Contents). length c.code ≤ old.at) is e.0) w
     ∙ ap (λ (v : Walk). at_the_end v.at (before_of v)) (sym e.1)
-
--- a refusal, as it is returned
-pub told_as : (rule : Rule) (at place : ℕ) (breach : Breach) → place ≡ at
-    → breach ≡ record { rule = rule; offset = place } → refused rule at ≡ Err breach
-told_as rule at place breach there made = ap (refused rule) (sym there) ∙ ap (λ (b : Breach). Err b) (sym made)
-
--- a state that may be there falls off the code
-pub falls_off : {S : Type 0} (view : S → State) (at : ℕ) (o : Option S) (before : Option State)
-    → option_map view o ≡ before → is_some o ≡ true → at_the_end at before ≡ refused rules.Flow at
-falls_off view at None before same some = absurd (cc)
-falls_off view at (Some s) before same some = ap (at_the_end at) (sym same)
-
-pub falls_nowhere : {S : Type 0} (view : S → State) (at : ℕ) (o : Option S) (before : Option State)
-    → option_map view o ≡ before → is_some o ≡ false → at_the_end at before ≡ Ok tt
-falls_nowhere view at None before same none = ap (at_the_end at) (sym same)
-falls_nowhere view at (Some s) before same none = absurd (cc)

@@ -16,7 +16,7 @@ pub use laws::{
 };
 pub use pass::judge_code;
 pub use rows::Given;
-pub use stop::{Breach, Stop};
+pub use stop::{Breach, Stop, broken};
 pub use upgrading::{UpgradeFault, upgrade};
 pub use verified::{Verified, verify};
 pub use walk::{Arrival, Place, Walk};

@@ -33,8 +33,8 @@ pub fn judge_code<'a>(alloc: Global, module: &'a Module<'a>) -> Result<(), Stop>
             Err(_) => return Err(Stop::Memory),
         }
     }
-    if walk.state().is_some() {
-        return Err(Stop::Broken(broken(Rule::Flow, walk.offset())));
+    match walk.ended() {
+        Ok(()) => Ok(()),
+        Err(breach) => Err(Stop::Broken(breach)),
     }
-    Ok(())
 }

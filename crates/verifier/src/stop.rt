@@ -21,7 +21,7 @@ pub enum Stop {
 }
 
 /// The rule is broken at this code offset.
-pub(crate) fn broken(rule: Rule, at: usize) -> Breach
+pub fn broken(rule: Rule, at: usize) -> Breach
     requires { at < 2 ^ 32 }
     ensures { result ≡ record { rule = rule; offset = at } }
 {

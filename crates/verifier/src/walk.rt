@@ -63,6 +63,7 @@ impl<'a> Walk<'a> {
     ghost use Rattle.module_format.specs.Keeping.{Keeps};
     ghost use Rattle.states.specs.Views.{state_of};
     ghost use Rattle.certified_worlds.specs.Certified.{state_at};
+    ghost use Rattle.verifier.specs.Judge.{at_the_end};
     ghost use Rattle.verifier.specs.Walking.{before_of, IsWalk, IsBegun, Arriving, HasArrived, GoesOn};
 
     /// A walk that is at offset 0, with the state of the root.
@@ -94,6 +95,17 @@ impl<'a> Walk<'a> {
         ensures { result ≡ self.now.at }
     {
         self.at
+    }
+
+    /// The verdict where the code ends at the offset: a state that falls into it breaks a rule.
+    pub fn ended(&self) -> Result<(), Breach>
+        requires { self.now.at < 2 ^ 32 }
+        ensures { result ≡ at_the_end self.now.at (before_of self.now) }
+    {
+        if self.is_reached {
+            return Err(broken(Rule::Flow, self.at));
+        }
+        Ok(())
     }
 
     /// What is at the offset.

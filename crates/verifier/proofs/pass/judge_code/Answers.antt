@@ -1,9 +1,8 @@
-use Rattle.std.proofs.Common.{◌≡◌, ◌∙◌, ◌≤◌, length, sym, ap, subst, arith}
+use Rattle.std.proofs.Common.{rules, ◌≡◌, ◌∙◌, ◌≤◌, length, sym, subst, arith}
 use Rattle.module_format.specs.Contents.{Contents}
-use Rattle.states.specs.declared.rule.Rule.TheVariants as rules
 use Rattle.verifier.specs.Walking.{before_of, HasGoneOn}
 use Rattle.verifier.proofs.Walks.{HasEntered, has_entered, way_begins, way_goes_on, way_breaks, way_misspelled}
-use Rattle.verifier.proofs.Walks.{way_ended, falls_off, falls_nowhere, goes_as, breaks_as, told_as}
+use Rattle.verifier.proofs.Walks.{way_ended, goes_as, breaks_as}
 use Rattle.verifier.proofs.pass.judge_code.Goals as goal
 use Rattle.verifier.proofs.pass.judge_code.Goals.{After-enter}
 
@@ -49,18 +48,14 @@ returns-in-Ok-Err-clause-refuses c =
     (entered (goal.at.returns-in-Ok-Err-clause-refuses c).After-enter)
     (breaks_as _ _ _ c.in-Ok-Err.field-0 c.in-Ok-Err.breach c.in-Ok-Err.field-0-is c.in-Ok-Err.ensures)
 
-pub returns-then-is_some-clause-refuses : goal.returns-then-is_some-clause-refuses
-returns-then-is_some-clause-refuses c =
+pub returns-in-Ok-clause-accepts : goal.returns-in-Ok-clause-accepts
+returns-in-Ok-clause-accepts c =
     way_ended c.args.module.now c.code.walk c.arrive.new.self c.code.invariant.same c.code.invariant.on_the_way
     c.in-End.ensures
-    ∙ falls_off _ c.arrive.new.self.at c.state.result (before_of c.arrive.new.self) c.state.ensures
-    (sym c.is_some.ensures ∙ c.if-is_some.true)
-    ∙ told_as rules.Flow c.arrive.new.self.at c.offset-then-is_some.result c.broken-then-is_some.result
-    c.offset-then-is_some.ensures c.broken-then-is_some.ensures
+    ∙ (sym c.ended.ensures ∙ search rules)
 
-pub returns-clause-accepts : goal.returns-clause-accepts
-returns-clause-accepts c =
+pub returns-in-Err-clause-refuses : goal.returns-in-Err-clause-refuses
+returns-in-Err-clause-refuses c =
     way_ended c.args.module.now c.code.walk c.arrive.new.self c.code.invariant.same c.code.invariant.on_the_way
     c.in-End.ensures
-    ∙ falls_nowhere _ c.arrive.new.self.at c.state.result (before_of c.arrive.new.self) c.state.ensures
-    (sym c.is_some.ensures ∙ c.if-is_some.false)
+    ∙ (sym c.ended.ensures ∙ search rules)

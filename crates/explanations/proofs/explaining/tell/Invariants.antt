@@ -2,7 +2,7 @@ use Rattle.std.proofs.Common.{◌≡◌, ◌≤◌, ◌-◌, length}
 use Rattle.std.specs.Prelude.{string_bytes}
 use Rattle.verifier.specs.Walking.{OnTheWay, IsWalk, walked, before_of}
 use Rattle.explanations.specs.Explaining.{Explains}
-use Rattle.explanations.proofs.explaining.push_explanation.Given as goal
+use Rattle.explanations.proofs.explaining.tell.Given as goal
 
 abbrev pub invariant-loop-arrival : goal.invariant-loop-arrival
 invariant-loop-arrival l = record {

@@ -5,9 +5,9 @@ use Rattle.verifier.specs.Walking.{before_of, HasGoneOn}
 use Rattle.verifier.proofs.Walks.{HasEntered, has_entered, way_begins, way_goes_on, goes_as, breaks_as}
 use Rattle.sentences.specs.Seen.{seen}
 use Rattle.explanations.proofs.Explains.{begins}
-use Rattle.explanations.proofs.Walked.{on_ok, unspelled_here, ended_here, last_here, hidden_here, goes_on_here}
-use Rattle.explanations.proofs.explaining.push_explanation.Goals as goal
-use Rattle.explanations.proofs.explaining.push_explanation.Goals.{After-enter}
+use Rattle.explanations.proofs.Walked.{if_ok, told_unspelled, told_ended, told_last, told_breach, goes_on_here}
+use Rattle.explanations.proofs.explaining.tell.Goals as goal
+use Rattle.explanations.proofs.explaining.tell.Goals.{After-enter}
 
 pub loop-arrival-init : goal.loop-arrival-init
 loop-arrival-init c =
@@ -24,26 +24,27 @@ loop-arrival-init c =
 
 pub returns-in-Unspelled : goal.returns-in-Unspelled
 returns-in-Unspelled c =
-    on_ok c.push_unspelled.result c.push_unspelled.ensures
-    (unspelled_here c.args.module.now c.loop-arrival.walk (string_bytes c.loop-arrival.text)
-    (string_bytes c.push_unspelled.new.text) c.offset-at.result c.loop-arrival.setting c.loop-arrival.invariant.same
-    c.loop-arrival.invariant.explains c.in-Unspelled.ensures.0 c.offset-at.ensures)
+    if_ok c.tell_unspelled.result c.tell_unspelled.ensures
+    (λ told. told_unspelled c.args.module.now c.loop-arrival.walk c.arrive.new.self (string_bytes c.loop-arrival.text)
+    (string_bytes c.tell_unspelled.new.text) c.offset-at.result c.loop-arrival.setting c.args.known told
+    c.loop-arrival.invariant.same c.loop-arrival.invariant.on_the_way c.loop-arrival.invariant.explains
+    c.in-Unspelled.ensures c.offset-at.ensures)
 
 pub returns-in-End : goal.returns-in-End
 returns-in-End c =
-    on_ok c.push_end.result c.push_end.ensures
-    (ended_here c.args.module.now c.loop-arrival.walk c.arrive.new.self (string_bytes c.loop-arrival.text)
-    (string_bytes c.push_end.new.text) c.offset-at.result (seen c.state.result) c.loop-arrival.setting
-    c.loop-arrival.invariant.same c.loop-arrival.invariant.explains c.in-End.ensures c.offset-at.ensures
-    c.state.ensures)
+    if_ok c.tell_end.result c.tell_end.ensures
+    (λ told. told_ended c.args.module.now c.loop-arrival.walk c.arrive.new.self (string_bytes c.loop-arrival.text)
+    (string_bytes c.tell_end.new.text) c.offset-at.result c.loop-arrival.setting c.args.known told
+    c.loop-arrival.invariant.same c.loop-arrival.invariant.on_the_way c.loop-arrival.invariant.explains
+    c.in-End.ensures c.offset-at.ensures)
 
 pub returns-in-Some : goal.returns-in-Some
 returns-in-Some c =
-    on_ok c.push_last.result c.push_last.ensures
-    (last_here c.args.module.now c.loop-arrival.walk c.arrive.new.self c.in-Instruction.arrival
-    (string_bytes c.loop-arrival.text) (string_bytes c.push_last.new.text) c.loop-arrival.setting c.args.judged
-    c.in-Some.rule c.offset-at.result c.loop-arrival.invariant.same c.loop-arrival.invariant.on_the_way
-    c.loop-arrival.invariant.explains c.in-Instruction.ensures c.requires.judged c.in-Some.ensures c.offset-at.ensures)
+    if_ok c.tell_last.result c.tell_last.ensures
+    (λ told. told_last c.args.module.now c.loop-arrival.walk c.arrive.new.self c.in-Instruction.arrival
+    (string_bytes c.loop-arrival.text) (string_bytes c.tell_last.new.text) c.loop-arrival.setting c.args.known
+    c.in-Some.rule c.offset-at.result told c.loop-arrival.invariant.same c.loop-arrival.invariant.on_the_way
+    c.loop-arrival.invariant.explains c.in-Instruction.ensures c.requires.known c.in-Some.ensures c.offset-at.ensures)
 
 -- the instruction that the walk is at
 entered : (c : After-enter) → HasEntered c.args.module.now c.loop-arrival.walk.at (before_of c.loop-arrival.walk)
@@ -55,12 +56,12 @@ entered c =
 
 pub returns-in-Err : goal.returns-in-Err
 returns-in-Err c =
-    on_ok c.push_hidden.result c.push_hidden.ensures
-    (hidden_here c.args.module.now c.loop-arrival.walk c.enter.new.self c.in-Instruction.arrival c.in-Err.breach
-    (string_bytes c.loop-arrival.text) (string_bytes c.push_sight.new.text) (string_bytes c.push_hidden.new.text)
-    c.loop-arrival.setting c.args.judged c.offset-at.result (seen c.state-reached.result)
+    if_ok c.tell_breach.result c.tell_breach.ensures
+    (λ told. told_breach c.args.module.now c.loop-arrival.walk c.enter.new.self c.in-Instruction.arrival c.in-Err.breach
+    (string_bytes c.loop-arrival.text) (string_bytes c.push_sight.new.text) (string_bytes c.tell_breach.new.text)
+    c.loop-arrival.setting c.args.known c.offset-at.result (seen c.state-reached.result) told
     c.loop-arrival.invariant.on_the_way c.loop-arrival.invariant.explains
-    (entered (goal.at.returns-in-Err c).After-enter) c.requires.judged c.in_default.ensures c.offset-at.ensures
+    (entered (goal.at.returns-in-Err c).After-enter) c.requires.known c.in_default.ensures c.offset-at.ensures
     c.state-reached.ensures c.in_ok-push_sight.ensures
     (breaks_as _ _ _ c.in_ok-breach.field-0 c.in-Err.breach c.in-Err.is c.in_ok-breach.ensures))
 
