@@ -327,6 +327,23 @@ def to_labels_of_eight_entries(ends=225, entries=8):
     return compared_in_turns(rows, wanted, ends, f"ldc 50, ldl 1, stnl 0, {written(blocks)}")
 
 
+def to_labels_from_rows_of_two_facts(rows=385, ends=115, entries=8):
+    """From 385 labels with two entries for each block, once a store went through a pointer to any word, to 115 with
+    eight."""
+    part, half = BLOCK // entries, BLOCK // 2
+    blocks = [word for word in range(FRAME_LO + BLOCK, FRAME_HI - BLOCK, BLOCK) if abs(word) > BLOCK]
+
+    def parts(span, first, second):
+        return [
+            number_entry(word, span, *(first if word % BLOCK < half else second))
+            for block in blocks
+            for word in range(block, block + BLOCK, span)
+        ]
+
+    known = after([pointer_to(range(2, FRAME_HI)), *parts(half, (0, 9), (5, 110))])
+    return compared_with_each(known, parts(part, (0, 50), (5, 200)), rows, ends, THROUGH_POINTER)
+
+
 def to_labels_behind_stores(ends=256):
     """The same, where a store through a pointer to any word comes before each of these."""
     return to_labels_in_turns(ends, THROUGH_POINTER)

@@ -396,21 +396,45 @@ impl Frame<'_> {
         Passed { rest, paid: sum }
     }
 
-    /// What is left once the first entry of a row is passed, or more.
-    fn past_first<'b>(&self, from: &'b [Entry], paid: u128) -> Option<Passed<'b>>
+    /// What is left once the first entry of a row is passed, or more, by the words of which the same is known as of its
+    /// first one.
+    fn past_known<'b>(&self, from: &'b [Entry], paid: u128) -> Option<Passed<'b>>
         ensures passed { IfSome result (λ next.
             (row : List Row) → IsPassed (frame_facts self.now) row from.now paid
             → IsPassed (frame_facts self.now) row next.rest.now next.paid) }
         ensures shorter { IfSome result (λ next. length next.rest.now < length from.now) }
     {
-        let (entry, later) = from.split_first()?;
+        let (entry, _later) = from.split_first()?;
         let word = start_of(entry);
-        if let Some(run) = self.known_run(word, word + block_words() as i64) {
-            let next = self.past_run(from, paid, word, run);
-            if next.rest.len() < from.len() {
-                return Some(next);
-            }
+        let run = self.known_run(word, word + block_words() as i64)?;
+        let next = self.past_run(from, paid, word, run);
+        if next.rest.len() < from.len() {
+            return Some(next);
         }
+        None
+    }
+
+    /// The words of an entry are summed from now on, if it wants no loop.
+    fn sum_entry(&mut self, entry: &Entry)
+        ensures facts { frame_facts self.new ≡ frame_facts self.old }
+        ensures room { SameRoom self.old self.new }
+    {
+        if loop_of(entry.fact).is_none() {
+            self.sum(entry.word, entry.span);
+        }
+    }
+
+    /// What is left once the first entry of a row is passed by what is known of its words.
+    fn past_entry<'b>(&mut self, from: &'b [Entry], paid: u128) -> Option<Passed<'b>>
+        ensures passed { IfSome result (λ next.
+            (row : List Row) → IsPassed (frame_facts self.new) row from.now paid
+            → IsPassed (frame_facts self.new) row next.rest.now next.paid) }
+        ensures shorter { IfSome result (λ next. length next.rest.now < length from.now) }
+        ensures facts { frame_facts self.new ≡ frame_facts self.old }
+        ensures room { SameRoom self.old self.new }
+    {
+        let (entry, later) = from.split_first()?;
+        self.sum_entry(entry);
         let sum = paid.checked_add(self.entry_cost(entry)?)?;
         Some(Passed {
             rest: later,
@@ -418,9 +442,26 @@ impl Frame<'_> {
         })
     }
 
+    /// What is left once the first entry of a row is passed, or more.
+    fn past_first<'b>(&mut self, from: &'b [Entry], paid: u128) -> Option<Passed<'b>>
+        ensures passed { IfSome result (λ next.
+            (row : List Row) → IsPassed (frame_facts self.new) row from.now paid
+            → IsPassed (frame_facts self.new) row next.rest.now next.paid) }
+        ensures shorter { IfSome result (λ next. length next.rest.now < length from.now) }
+        ensures facts { frame_facts self.new ≡ frame_facts self.old }
+        ensures room { SameRoom self.old self.new }
+    {
+        if let Some(next) = self.past_known(from, paid) {
+            return Some(next);
+        }
+        self.past_entry(from, paid)
+    }
+
     /// What is paid for the loops that a row wants and that are entered, if each of its entries holds by what is known.
-    fn entries_cost(&self, row: &[Entry]) -> Option<u128>
-        ensures { IfSome result (IsPassed (frame_facts self.now) row.now []) }
+    fn entries_cost(&mut self, row: &[Entry]) -> Option<u128>
+        ensures passed { IfSome result (IsPassed (frame_facts self.new) row.now []) }
+        ensures facts { frame_facts self.new ≡ frame_facts self.old }
+        ensures room { SameRoom self.old self.new }
     {
         let mut rest = row;
         let mut paid = 0;
@@ -430,18 +471,6 @@ impl Frame<'_> {
             paid = next.paid;
         }
         Some(paid)
-    }
-
-    /// The words of each entry of a row that wants no loop are summed from now on.
-    fn sum_entries(&mut self, row: &[Entry])
-        ensures facts { frame_facts self.new ≡ frame_facts self.old }
-        ensures room { SameRoom self.old self.new }
-    {
-        for entry in row {
-            if loop_of(entry.fact).is_none() {
-                self.sum(entry.word, entry.span);
-            }
-        }
     }
 
     /// Whether a row is asked a run at a time: too many words were changed to seek each in the row, or more than the row
@@ -467,7 +496,6 @@ impl Frame<'_> {
         if !self.asks_runs(row) {
             return self.paid_quickly(row);
         }
-        self.sum_entries(row);
         let paid = self.entries_cost(row)?;
         Some(paid)
     }

@@ -1,9 +1,0 @@
-use Rattle.std.proofs.Common.{◌≡◌}
-use Rattle.states.specs.Frames.{frame_facts, SameRoom}
-use Rattle.states.proofs.frame.Frame.sum_entries.Given as goal
-
-abbrev pub invariant-loop-entry : goal.invariant-loop-entry
-invariant-loop-entry l = record {
-  facts : frame_facts l.self ≡ frame_facts l.fn.self;
-  room : SameRoom l.fn.self l.self;
-}
