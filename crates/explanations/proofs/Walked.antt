@@ -1,7 +1,6 @@
 -- What is written where a walk is.
 use Rattle.std.proofs.Common.{◌≡◌, ◌≢◌, ◌∙◌, ℕ, ◌+◌, ◌-◌, ◌<◌, ◌≤◌, ◌++◌, length, Option, Some, None, Ok, sym, ap, refl}
-use Rattle.std.proofs.Common.{subst, Result, Err, IfOk, Bool, true, false, arith}
-use Rattle.std.specs.Prelude.{is_some}
+use Rattle.std.proofs.Common.{subst, Result, Err, IfOk, arith}
 use Rattle.prefix_decoder.specs.Fetching.{fetched}
 use Rattle.module_format.specs.Contents.{Contents}
 use Rattle.states.specs.declared.rule.Rule.{Rule}
@@ -19,8 +18,9 @@ use Rattle.fact_texts.specs.Texts.{Text}
 use Rattle.state_texts.specs.declared.settings.Setting.{Setting}
 use Rattle.sentences.specs.Sights.{sight_text, setting_after, hidden_text, unspelled_text, ended_text}
 use Rattle.explanations.specs.declared.explaining.Told.{Told}
+use Rattle.explanations.specs.declared.explaining.Told.TheVariants.{All, Part}
 use Rattle.explanations.specs.Explaining.{explanation, last_text, Explains, IsElsewhere}
-use Rattle.explanations.specs.Telling.{IsKnown, IsTold, TellsBreach}
+use Rattle.explanations.specs.Telling.{IsKnown, verdict_told, IsTold, TellsBreach}
 use Rattle.explanations.proofs.Explains.{ends_unspelled, ends_there, ends_broken, ends_hidden, goes_on}
 
 -- what follows of what is returned, where there is no error
@@ -83,15 +83,14 @@ sight_here m at place before sighted reached written seen setting there same sta
 pub told_unspelled : (m : Contents) (old new : Walk) (written text : Text) (at : ℕ) (setting : Setting)
     (known : Option Breach) (told : Told) → walked old ≡ m → OnTheWay m old.at (before_of old)
     → Explains m written old.at (before_of old) setting → IsUnspelled old × (new ≡ old) → at ≡ old.at
-    → (text ≡ written ++ unspelled_text m at) × (told ≡ record { judged = refused rules.Spelling at; is_whole = true })
+    → (text ≡ written ++ unspelled_text m at) × (told ≡ All (refused rules.Spelling at))
     → IsTold m known text told
-told_unspelled m old new written text at setting known told same way e there place is = record {
-  judged = ap (λ (t : Told). t.judged) is.1
-      ∙ sym (way_misspelled m old new at (record { rule = rules.Spelling; offset = at }) same way there
-      (place ∙ ap (λ (w : Walk). w.at) (sym there.1)) refl);
-  whole = λ _. unspelled_here m old written text at setting same e there.0 place is.0;
-  known = λ _. ap (λ (t : Told). t.is_whole) is.1;
-}
+told_unspelled m old new written text at setting known told same way e there place is =
+    subst (λ (t : Told). IsTold m known text t) (sym is.1) (
+      sym (way_misspelled m old new at (record { rule = rules.Spelling; offset = at }) same way there
+          (place ∙ ap (λ (w : Walk). w.at) (sym there.1)) refl),
+      unspelled_here m old written text at setting same e there.0 place is.0,
+    )
 
 -- the code ends there
 pub told_ended : (m : Contents) (old new : Walk) (written text : Text) (at : ℕ) (setting : Setting)
@@ -99,13 +98,13 @@ pub told_ended : (m : Contents) (old new : Walk) (written text : Text) (at : ℕ
     → Explains m written old.at (before_of old) setting
     → (length (walked old).code ≤ old.at) × (new ≡ old) → at ≡ old.at
     → (text ≡ written ++ ended_text m at (before_of new))
-    × (told ≡ record { judged = at_the_end new.at (before_of new); is_whole = true })
+    × (told ≡ All (at_the_end new.at (before_of new)))
     → IsTold m known text told
-told_ended m old new written text at setting known told same way e ended place is = record {
-  judged = ap (λ (t : Told). t.judged) is.1 ∙ sym (way_ended m old new same way ended);
-  whole = λ _. ended_here m old new written text at (before_of new) setting same e ended place refl is.0;
-  known = λ _. ap (λ (t : Told). t.is_whole) is.1;
-}
+told_ended m old new written text at setting known told same way e ended place is =
+    subst (λ (t : Told). IsTold m known text t) (sym is.1) (
+      sym (way_ended m old new same way ended),
+      ended_here m old new written text at (before_of new) setting same e ended place refl is.0,
+    )
 
 -- what is known of the verdict is so
 known_so : (m : Contents) (known : Option Breach) (breach : Breach) → IsKnown m known → known ≡ Some breach
@@ -118,21 +117,20 @@ pub told_last : (m : Contents) (old arrived : Walk) (a : Arrival) (written text 
     → Explains m written old.at (before_of old) setting → Arrives old a arrived → IsKnown m known
     → known ≡ Some (record { rule = rule; offset = at }) → at ≡ old.at
     → (text ≡ written ++ last_text m a.at a.instr (before_of arrived) setting rule)
-    × (told ≡ record { judged = refused rule a.at; is_whole = true }) → IsTold m known text told
+    × (told ≡ All (refused rule a.at)) → IsTold m known text told
 told_last m old arrived a written text setting known rule at told same way e arr so broken place is =
     let refusal : verdict m ≡ refused rule old.at =
     known_so m known (record { rule = rule; offset = at }) so broken ∙ ap (λ (o : ℕ). refused rule o) place in
-    record {
-      judged = ap (λ (t : Told). t.judged) is.1 ∙ ap (λ (o : ℕ). refused rule o) arr.at ∙ sym refusal;
-      whole = λ _. last_here m old arrived a written text setting rule same way e arr refusal is.0;
-      known = λ _. ap (λ (t : Told). t.is_whole) is.1;
-    }
+    subst (λ (t : Told). IsTold m known text t) (sym is.1) (
+      ap (λ (o : ℕ). refused rule o) arr.at ∙ sym refusal,
+      last_here m old arrived a written text setting rule same way e arr refusal is.0,
+    )
 
 -- where the rule is broken by the instruction, nothing was known of that
-unknown_here : (m : Contents) (known : Option Breach) (rule : Rule) (at : ℕ) (b : Bool) → IsKnown m known
-    → IsElsewhere known at → verdict m ≡ refused rule at → is_some known ≡ true → b ≡ true
-unknown_here m None rule at b so elsewhere told some = absurd (cc)
-unknown_here m (Some breach) rule at b so elsewhere told some =
+unknown_here : (m : Contents) (known : Option Breach) (rule : Rule) (at : ℕ) → IsKnown m known
+    → IsElsewhere known at → verdict m ≡ refused rule at → known ≡ None
+unknown_here m None rule at so elsewhere told = refl
+unknown_here m (Some breach) rule at so elsewhere told =
     let same : ◌≡◌ {A = Verdict} (Err breach) (refused rule at) = sym so ∙ told in
     let is : breach ≡ record { rule = rule; offset = at } = cc in
     absurd (elsewhere rule (ap (λ (x : Breach). Some x) is))
@@ -145,31 +143,31 @@ pub told_breach : (m : Contents) (old entered : Walk) (a : Arrival) (breach : Br
     → TellsBreach seen text at breach told → IsTold m known text told
 told_breach m old entered a breach written seen text setting known at sighted told way e has so elsewhere there same
     sight (by_rule {rule = rule} broken) tells =
-    let is = tells.here (has.there ∙ sym there) in
     let refusal : verdict m ≡ refused rule a.at =
     way_breaks m old.at (before_of old) entered a (record { rule = rule; offset = a.at }) way has (by_rule broken) in
-    let part : told.is_whole ≡ false = ap (λ (t : Told). t.is_whole) is in
-    record {
-      judged = ap (λ (t : Told). t.judged) is ∙ sym refusal;
-      whole = λ yes. (let clash : false ≡ true = sym part ∙ yes in absurd (cc));
-      known = unknown_here m known rule at told.is_whole so elsewhere
-          (refusal ∙ ap (λ (o : ℕ). refused rule o) (has.there ∙ sym there));
-    }
+    subst (λ (t : Told). IsTold m known text t) (sym (tells.here (has.there ∙ sym there))) (
+      sym refusal,
+      unknown_here m known rule at so elsewhere (refusal ∙ ap (λ (o : ℕ). refused rule o) (has.there ∙ sym there)),
+    )
 told_breach m old entered a breach written seen text setting known at sighted told way e has so elsewhere there same
     sight (by_start {inside = inside} {after = after} ok start) tells =
     let starts = sym has.start ∙ start in
     let low = start_is_beyond m (old.at + 1) (a.instr.len - 1) inside starts in
     let is = tells.beyond (λ clash. absurd (omega (arith, low, clash, there))) in
-    record {
-      judged = ap (λ (t : Told). t.judged) is.1
-          ∙ sym (way_breaks m old.at (before_of old) entered a
-          (record { rule = rules.InstructionStart; offset = inside }) way has (by_start ok start));
-      whole = λ _. ends_hidden m written old.at (before_of old) setting a.instr e has.inside has.spelled after
+    subst (λ (t : Told). IsTold m known text t) (sym is.1) (
+      sym (way_breaks m old.at (before_of old) entered a
+          (record { rule = rules.InstructionStart; offset = inside }) way has (by_start ok start)),
+      ends_hidden m written old.at (before_of old) setting a.instr e has.inside has.spelled after
           (sym has.judged ∙ ok) seen
           (sight_here m old.at at (before_of old) sighted (before_of entered) written seen setting there same has.reached
-          sight) inside text starts (is.0 ∙ ap (λ (o : ℕ). seen ++ hidden_text o inside) there);
-      known = λ _. ap (λ (t : Told). t.is_whole) is.1;
-    }
+          sight) inside text starts (is.0 ∙ ap (λ (o : ℕ). seen ++ hidden_text o inside) there),
+    )
+
+-- a walk that knew of the refusal told all
+pub told_known : (m : Contents) (breach : Breach) (written : Text) (told : Told)
+    → IsTold m (Some breach) written told → (written ≡ explanation m) × (verdict_told told ≡ verdict m)
+told_known m breach written (All judged) is = (is.1, is.0)
+told_known m breach written (Part other) is = absurd (let clash = is.1 in cc)
 
 -- the walk goes on
 pub goes_on_here : (m : Contents) (old entered new : Walk) (a : Arrival) (written seen : Text)

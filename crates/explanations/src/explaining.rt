@@ -1,6 +1,6 @@
 //! The explanation of the verdict on a module.
 
-ghost use Rattle.std.specs.Prelude.{◌≡◌, ◌<◌, ◌^◌, ◌++◌, [], true, IfOk, OnOk, MatchOption, Some};
+ghost use Rattle.std.specs.Prelude.{◌≡◌, ◌<◌, ◌^◌, ◌++◌, [], IfOk, OnOk, MatchOption, Some};
 ghost use Rattle.std.specs.Prelude.{string_bytes, if◌then◌else◌};
 ghost use Rattle.module_format.specs.Keeping.{Keeps};
 ghost use Rattle.states.specs.declared.rule.Rule.TheVariants.{Spelling};
@@ -10,6 +10,7 @@ ghost use Rattle.verifier.specs.Judge.{verdict, refused, at_the_end};
 ghost use Rattle.verifier.specs.Walking.{before_of, walked, HasArrived, IsBegun};
 ghost use Rattle.explanations.specs.Explaining.{explanation, last_text, root_setting, IsElsewhere};
 ghost use Rattle.explanations.specs.Telling.{IsKnown, IsTold, TellsBreach};
+ghost use Rattle.explanations.specs.declared.explaining.Told.TheVariants.{All};
 
 use certificate::Module;
 use sentences::{
@@ -91,22 +92,23 @@ fn push_last<'a>(
 
 /// What a walk comes to that tells what is known.
 #[derive(Clone, Copy)]
-pub(crate) struct Told {
-    /// The verdict.
-    pub judged: Result<(), Breach>,
-    /// Whether the explanation is written. Else the rule is broken by the last instruction, which is written as if it
-    /// broke none.
-    pub is_whole: bool,
+pub(crate) enum Told {
+    /// The explanation of this verdict.
+    All(Result<(), Breach>),
+    /// Where the module is refused. The instruction that breaks the rule is told as if it broke none.
+    Part(Breach),
 }
 
 impl Told {
-    /// The explanation of this verdict is written.
-    fn whole(judged: Result<(), Breach>) -> Self
-        ensures { result ≡ record { judged = judged; is_whole = true } }
+    ghost use Rattle.explanations.specs.Telling.{verdict_told};
+
+    /// The verdict.
+    fn judged(self) -> Result<(), Breach>
+        ensures { result ≡ verdict_told self }
     {
-        Told {
-            judged,
-            is_whole: true,
+        match self {
+            Told::All(judged) => judged,
+            Told::Part(breach) => Err(breach),
         }
     }
 }
@@ -120,10 +122,10 @@ fn tell_unspelled(
 ) -> Result<Told, AllocError>
     requires { at < 2 ^ 32 }
     ensures { IfOk result (λ told. (string_bytes text.new ≡ string_bytes text.old ++ unspelled_text «module».now at)
-        × (told ≡ record { judged = refused Spelling at; is_whole = true })) }
+        × (told ≡ All (refused Spelling at))) }
 {
     push_unspelled(alloc, text, module, at)?;
-    Ok(Told::whole(Err(broken(Rule::Spelling, at))))
+    Ok(Told::All(Err(broken(Rule::Spelling, at))))
 }
 
 /// Appends what is known where the code ends.
@@ -131,10 +133,10 @@ fn tell_end(text: &mut String, module: &Module, at: usize, walk: &Walk) -> Resul
     requires few { walk.now.at < 2 ^ 32 }
     ensures { let before = before_of walk.now in
         IfOk result (λ told. (string_bytes text.new ≡ string_bytes text.old ++ ended_text «module».now at before)
-        × (told ≡ record { judged = at_the_end walk.now.at before; is_whole = true })) }
+        × (told ≡ All (at_the_end walk.now.at before))) }
 {
     push_end(text, module, at, walk.state())?;
-    Ok(Told::whole(walk.ended()))
+    Ok(Told::All(walk.ended()))
 }
 
 /// Appends the instruction that breaks the rule, the state that breaks it, and why.
@@ -152,10 +154,10 @@ fn tell_last<'a>(
     requires entered { arrival.now.entered ≡ entering «module».now arrival.now.at (before_of walk.old) }
     ensures { let before = before_of walk.old in IfOk result (λ told. (string_bytes text.new
         ≡ string_bytes text.old ++ last_text «module».now arrival.now.at arrival.now.instr before setting rule)
-        × (told ≡ record { judged = refused rule arrival.now.at; is_whole = true })) }
+        × (told ≡ All (refused rule arrival.now.at))) }
 {
     push_last(alloc, text, module, walk, arrival, setting, rule)?;
-    Ok(Told::whole(Err(broken(rule, arrival.at))))
+    Ok(Told::All(Err(broken(rule, arrival.at))))
 }
 
 /// Appends that a start lies within the instruction at an offset, if that is the rule that it breaks.
@@ -164,13 +166,10 @@ fn tell_breach(text: &mut String, at: usize, breach: Breach) -> Result<Told, All
 {
     let inside = breach.offset as usize;
     if inside == at {
-        return Ok(Told {
-            judged: Err(breach),
-            is_whole: false,
-        });
+        return Ok(Told::Part(breach));
     }
     push_hidden(text, at, inside)?;
-    Ok(Told::whole(Err(breach)))
+    Ok(Told::All(Err(breach)))
 }
 
 /// Appends what is known at each instruction, up to the first rule that is broken. The instruction that breaks it is told
@@ -240,13 +239,15 @@ pub fn explanation<'a>(alloc: Global, module: &'a Module<'a>) -> Result<Explaine
     ensures judged { IfOk result (λ e. e.judged ≡ verdict «module».now) }
 {
     let (text, told) = told_by_a_walk(alloc, module, None)?;
-    let judged = told.judged;
-    if told.is_whole {
-        return Ok(Explained { text, judged });
-    }
-    let (text, told) = told_by_a_walk(alloc, module, judged.err())?;
+    let Told::Part(breach) = told else {
+        return Ok(Explained {
+            text,
+            judged: told.judged(),
+        });
+    };
+    let (text, told) = told_by_a_walk(alloc, module, Some(breach))?;
     Ok(Explained {
         text,
-        judged: told.judged,
+        judged: told.judged(),
     })
 }
