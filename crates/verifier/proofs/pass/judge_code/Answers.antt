@@ -1,4 +1,4 @@
-use Rattle.std.proofs.Common.{rules, ◌≡◌, ◌∙◌, ◌≤◌, length, sym, subst, arith}
+use Rattle.std.proofs.Common.{◌≡◌, ◌∙◌, ◌≤◌, length, sym, subst, arith}
 use Rattle.module_format.specs.Contents.{Contents}
 use Rattle.verifier.specs.Walking.{before_of, HasGoneOn}
 use Rattle.verifier.proofs.Walks.{HasEntered, has_entered, way_begins, way_goes_on, way_breaks, way_misspelled}
@@ -48,14 +48,14 @@ returns-in-Ok-Err-clause-refuses c =
     (entered (goal.at.returns-in-Ok-Err-clause-refuses c).After-enter)
     (breaks_as _ _ _ c.in-Ok-Err.field-0 c.in-Ok-Err.breach c.in-Ok-Err.field-0-is c.in-Ok-Err.ensures)
 
-pub returns-in-Ok-clause-accepts : goal.returns-in-Ok-clause-accepts
-returns-in-Ok-clause-accepts c =
+pub returns-in-Ok-ended-clause-accepts : goal.returns-in-Ok-ended-clause-accepts
+returns-in-Ok-ended-clause-accepts c =
     way_ended c.args.module.now c.code.walk c.arrive.new.self c.code.invariant.same c.code.invariant.on_the_way
     c.in-End.ensures
-    ∙ (sym c.ended.ensures ∙ search rules)
+    ∙ (sym c.ended.ensures ∙ c.in-Ok-ended.is)
 
-pub returns-in-Err-clause-refuses : goal.returns-in-Err-clause-refuses
-returns-in-Err-clause-refuses c =
+pub returns-clause-refuses : goal.returns-clause-refuses
+returns-clause-refuses c =
     way_ended c.args.module.now c.code.walk c.arrive.new.self c.code.invariant.same c.code.invariant.on_the_way
     c.in-End.ensures
-    ∙ (sym c.ended.ensures ∙ search rules)
+    ∙ (sym c.ended.ensures ∙ c.in-Err-ended.is)
