@@ -1,7 +1,7 @@
 //! The explanation of the verdict on a module.
 
 ghost use Rattle.std.specs.Prelude.{◌≡◌, ◌<◌, ◌^◌, ◌++◌, [], IfOk, OnOk, MatchOption, Some};
-ghost use Rattle.std.specs.Prelude.{string_bytes, if◌then◌else◌};
+ghost use Rattle.std.specs.Prelude.{string_bytes, length, if◌then◌else◌};
 ghost use Rattle.module_format.specs.Keeping.{Keeps};
 ghost use Rattle.states.specs.declared.rule.Rule.TheVariants.{Spelling};
 ghost use Rattle.certified_worlds.specs.Certified.{entering, state_at};
@@ -120,7 +120,8 @@ fn tell_unspelled(
     module: &Module,
     at: usize,
 ) -> Result<Told, AllocError>
-    requires { at < 2 ^ 32 }
+    requires inside { at < length «module».now.code }
+    requires few { at < 2 ^ 32 }
     ensures { IfOk result (λ told. (string_bytes text.new ≡ string_bytes text.old ++ unspelled_text «module».now at)
         × (told ≡ All (refused Spelling at))) }
 {
