@@ -42,14 +42,14 @@ impl Position {
     }
 
     /// Whether a channel is used inside a `PAR` in its scope, if a line declares it.
-    pub(crate) fn is_inside(self, number: usize) -> bool
+    pub fn is_inside(self, number: usize) -> bool
         ensures { result ≡ is_inside self number }
     {
         number < self.declared || number < self.parallel
     }
 
     /// Whether a channel may be used in this direction, if it is a link.
-    pub(crate) fn is_right_way(self, name: &[u8], number: usize, direction: Direction) -> bool
+    pub fn is_right_way(self, name: &[u8], number: usize, direction: Direction) -> bool
         ensures { result ≡ is_right_way self name.now number direction }
     {
         if self.is_formal_of_main(number) {

@@ -29,7 +29,7 @@ pub(crate) fn fault_of_sizes(scope: &Scope, formals: &[Formal]) -> Option<u8>
 }
 
 /// What is known of formals by their head.
-pub(crate) fn parameters_for(
+pub fn parameters_for(
     alloc: Global,
     scope: &Scope,
     formals: &[Formal],

@@ -27,7 +27,7 @@ use std::alloc::{AllocError, Global};
 
 /// What is passed by its name.
 #[derive(Clone, Copy)]
-pub(crate) enum Handed {
+pub enum Handed {
     /// What is passed by its value, or breaks another rule.
     Nothing,
     /// A variable, or an array of channels.
@@ -81,7 +81,7 @@ fn handed_as(scope: &Scope, values: bool, passing: Passing, place: PlaceRef) -> 
 }
 
 /// What an actual is that is passed to a parameter.
-fn handed_by(scope: &Scope, parameter: Option<&Parameter>, actual: &Expr) -> Handed
+pub fn handed_by(scope: &Scope, parameter: Option<&Parameter>, actual: &Expr) -> Handed
     ensures { result ≡ handed_by (entries_of scope.now) (option_map (λ p. parameter_of p.now) parameter.entry)
         (expression_of actual.now) }
 {

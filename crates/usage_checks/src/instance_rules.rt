@@ -33,8 +33,8 @@ fn not_taken(formal: Option<Meaning>, found: Option<Meaning>, subscripted: bool)
     }
 }
 
-/// What is wanted of a subscript.
-fn subscript_for(formal: Option<Meaning>) -> Wanted
+/// What is wanted of the subscript of an actual that is passed to this formal.
+pub fn subscript_for(formal: Option<Meaning>) -> Wanted
     ensures { result ≡ subscript_for (option_map meaning_of formal) }
 {
     match formal {

@@ -10,8 +10,8 @@ ghost use Rattle.program_uses.specs.Telling.{IsFirst};
 use occam_parser::{Expr, Formal, FormalKind, Item};
 use program_uses::{NO_MAIN, UsageFault, fault_at, link_way, told_unless};
 
-/// Whether a formal is a link of `main`.
-fn is_link_as(kind: FormalKind, size: &Option<Expr>, name: &[u8]) -> bool
+/// Whether a formal is a link of `main`: a channel that is no array, and has the name of a link.
+pub fn is_link_as(kind: FormalKind, size: &Option<Expr>, name: &[u8]) -> bool
     ensures { result ≡ is_link_as kind (any_of size.now) name.now }
 {
     match (kind, size) {
@@ -33,7 +33,7 @@ fn are_links(formals: &[Formal]) -> bool
 }
 
 /// Whether a procedure of this name may be `main`.
-pub(crate) fn is_main_name(name: &[u8]) -> bool
+pub fn is_main_name(name: &[u8]) -> bool
     ensures { result ≡ is_main_name name.now }
 {
     match name {

@@ -103,7 +103,7 @@ fn takes_channels(
 }
 
 /// Whether a formal takes what has this meaning, or an element of it if a subscript follows.
-pub(crate) fn takes(formal: Meaning, found: Meaning, subscripted: bool) -> bool
+pub fn takes(formal: Meaning, found: Meaning, subscripted: bool) -> bool
     ensures { result ≡ takes (meaning_of formal) (meaning_of found) subscripted }
 {
     match formal {
@@ -130,7 +130,7 @@ pub(crate) fn takes(formal: Meaning, found: Meaning, subscripted: bool) -> bool
 }
 
 /// Whether a formal takes a value of this type that is no name or element.
-pub(crate) fn takes_value(formal: Meaning, found: ExprType) -> bool
+pub fn takes_value(formal: Meaning, found: ExprType) -> bool
     ensures { result ≡ takes_value (meaning_of formal) found }
 {
     match formal {
