@@ -117,6 +117,15 @@ impl Counts {
         }
     }
 
+    /// An item, where the words of all procedures before are free.
+    fn see_item(&mut self, line: u32, item: &Item) {
+        self.words.leave(0);
+        match item {
+            Item::Constant(constant) => self.see_value(line, &constant.value),
+            Item::Proc(_) => {}
+        }
+    }
+
     /// A block on this line that is repeated this often.
     fn see_body(&mut self, line: u32, body: &Body, count: u64) {
         match body {
@@ -145,14 +154,10 @@ impl Visitor for Counts {
     fn visit(&mut self, scope: &Scope<'_>, line: u32, part: Part<'_, '_>) {
         self.words.leave(scope.len());
         match part {
-            Part::Item(Item::Constant(constant)) => self.see_value(line, &constant.value),
+            Part::Item(item) => self.see_item(line, item),
             Part::Declaration(declaration) => self.see_declaration(scope, declaration),
             Part::Construct(construct) => self.see_construct(scope, line, construct),
-            Part::Item(Item::Proc(_))
-            | Part::Replicator(_)
-            | Part::Action(_)
-            | Part::Condition(_)
-            | Part::Guard(_) => {}
+            Part::Replicator(_) | Part::Action(_) | Part::Condition(_) | Part::Guard(_) => {}
         }
     }
 }

@@ -34,7 +34,7 @@ fn walk_body<'a, V: Visitor>(
         alloc,
         around: Around {
             signatures,
-            uncounted: Some(0),
+            uncounted: None,
         },
         lists: &lists,
     };

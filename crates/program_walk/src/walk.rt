@@ -6,8 +6,7 @@ use occam_parser::{
     Action, Body, Branch, Choice, Construct, Declaration, Expr, Guard, Process, Replicator,
 };
 use program_uses::{
-    Around, ChangeLists, add_name, is_before, is_sequence, repeats_of, variables_changed,
-    variables_changed_in,
+    Around, ChangeLists, add_name, repeats_of, variables_changed, variables_changed_in,
 };
 use scalar_ranges::{Scope, narrow_by};
 use std::alloc::{AllocError, Global};
@@ -285,7 +284,7 @@ impl<'s> Place<'s> {
         Ok(())
     }
 
-    /// A body under a replicator, turn by turn.
+    /// A body under a replicator, once, with an index that may be each of its values, as that of a `SEQ`.
     #[cycle(walk)]
     fn walk_body<'a, V: Visitor>(
         self,
@@ -296,20 +295,11 @@ impl<'s> Place<'s> {
         body: &Body<'a>,
     ) -> Result<(), AllocError> {
         visitor.visit(scope, line, Part::Replicator(replicator));
-        let counted = is_before(line, self.around.uncounted);
-        let repeats = repeats_of(counted, scope, is_sequence(body), replicator);
-        if !repeats.happens {
-            scope.begin()?;
-        }
+        let repeats = repeats_of(true, scope, true, replicator);
         self.begin_turns(scope, line, replicator, body)?;
-        for turn in 0..repeats.turns.count {
-            add_name(scope, replicator.name, repeats.index_in(turn))?;
-            self.walk_turn(visitor, scope, body)?;
-        }
+        add_name(scope, replicator.name, repeats.index_in(0))?;
+        self.walk_turn(visitor, scope, body)?;
         scope.end();
-        if !repeats.happens {
-            scope.end();
-        }
         Ok(())
     }
 

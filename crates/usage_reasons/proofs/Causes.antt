@@ -21,7 +21,7 @@ use Rattle.scalar_ranges.specs.Bounds.{bound_of, bound_of_term, range_found}
 use Rattle.program_uses.specs.Constants.{is_same_type}
 use Rattle.usage_reasons.specs.declared.reason.Why.TheVariants as why
 use Rattle.usage_reasons.specs.Tokens.{capped}
-use Rattle.usage_reasons.specs.Causes.{IsCause, Breaks, Fails, AreJoined, unknown, other_sort, other_type}
+use Rattle.usage_reasons.specs.Causes.{IsCause, Fails, AreJoined, unknown, other_sort, other_type}
 use Rattle.usage_reasons.specs.Causes.{no_constant, no_constant_element, overflow, division, shift, conversion, outside}
 use Rattle.usage_reasons.specs.Causes.{no_number as condition, other_types as compared}
 use Rattle.usage_reasons.proofs.Places.{itself}

@@ -2,3 +2,4 @@ pub mod ChainWidth
 pub mod Places
 pub mod Causes
 pub mod Parts
+pub mod AtFault

@@ -24,7 +24,7 @@ use Rattle.usage_reasons.specs.declared.reason.Why.{Why}
 use Rattle.usage_reasons.specs.declared.reason.Why.TheVariants as why
 use Rattle.usage_reasons.specs.Tokens.{capped, tokens_of_item}
 use Rattle.usage_reasons.specs.Sorts.{carried}
-use Rattle.usage_reasons.specs.Causes.{Breaks, IsCause, IsBroken, Explains, declared_twice, other_value, other_target, size_below_one}
+use Rattle.usage_reasons.specs.Causes.{Breaks, IsCause, Explains, declared_twice, other_value, other_target, size_below_one}
 use Rattle.usage_reasons.specs.Causes.{count_below_zero, last_index, other_items, other_text, text_of_ints}
 
 -- what is said without the place in the line

@@ -5,5 +5,6 @@ pub mod Chains
 pub mod Causes
 pub mod Calls
 pub mod Misuse
+pub mod AtFault
 pub mod LastItems
 pub mod Reasons

@@ -6,6 +6,7 @@ ghost use Rattle.occam_parser.specs.Views.{expression_of};
 ghost use Rattle.scalar_ranges.specs.Environments.{item_at};
 ghost use Rattle.scalar_ranges.specs.Scopes.{entries_of};
 ghost use Rattle.program_uses.specs.Signatures.{parameter_of};
+ghost use Rattle.usage_reasons.specs.AtFault.{IsAtFault};
 ghost use Rattle.usage_reasons.specs.Calls.{parameters_for};
 ghost use Rattle.usage_reasons.specs.Causes.{Explains};
 
@@ -17,8 +18,8 @@ use crate::reason::{Sort, Tokens, Why};
 use crate::tokens::{plus, plus_between, width_of};
 use occam_parser::Expr;
 use program_uses::{Parameter, PlaceRef, Signature, count_of_parameters, parameter_at, place_in};
-use scalar_ranges::{ExprType, Meaning, Scope};
-use usage_checks::{Position, Wanted};
+use scalar_ranges::Scope;
+use usage_checks::{Position, Wanted, subscript_for};
 
 /// Where the first actual begins.
 const ACTUALS: usize = 2;
@@ -44,16 +45,8 @@ pub(crate) struct Instance<'s, 'a> {
 /// What is wanted of a subscript of what is passed to a parameter.
 fn wanted_subscript(parameter: Option<&Parameter>) -> Wanted {
     match parameter {
-        Some(parameter) => subscript_for(parameter.meaning),
-        None => Wanted::Value(ExprType::Int),
-    }
-}
-
-/// What is wanted of a subscript of what is passed to a parameter that denotes this.
-fn subscript_for(parameter: Meaning) -> Wanted {
-    match parameter {
-        Meaning::Channel { .. } => Wanted::Constant(ExprType::Int),
-        _ => Wanted::Value(ExprType::Int),
+        Some(parameter) => subscript_for(Some(parameter.meaning)),
+        None => subscript_for(None),
     }
 }
 
@@ -141,7 +134,9 @@ impl<'s, 'a> Instance<'s, 'a> {
     }
 
     /// An actual that its parameter does not take.
-    fn refused(self, scope: &Scope<'a>) -> Option<Cause<'a>> {
+    fn refused(self, scope: &Scope<'a>) -> Option<Cause<'a>>
+        ensures { IfSome result IsAtFault }
+    {
         let mut at = ACTUALS;
         for place in 0..self.actuals.len() {
             let passed = self.passed(scope, place, at)?;
@@ -154,7 +149,10 @@ impl<'s, 'a> Instance<'s, 'a> {
     }
 
     /// An actual that its parameter does not take, or another number of them than of parameters.
-    pub(crate) fn other_actual(self, scope: &Scope<'a>) -> Option<Cause<'a>> {
+    #[tactic(auto, using(crate::specs::AtFault::other_count))]
+    pub(crate) fn other_actual(self, scope: &Scope<'a>) -> Option<Cause<'a>>
+        ensures { IfSome result IsAtFault }
+    {
         let actuals = self.actuals.len();
         let parameters = count_of_parameters(self.signatures, scope.meaning(self.name));
         if actuals == parameters {
@@ -173,7 +171,9 @@ impl<'s, 'a> Instance<'s, 'a> {
     }
 
     /// An actual that is a channel and may not be passed here.
-    pub(crate) fn mispassed(self, scope: &Scope<'a>, position: Position) -> Option<Cause<'a>> {
+    pub(crate) fn mispassed(self, scope: &Scope<'a>, position: Position) -> Option<Cause<'a>>
+        ensures { IfSome result IsAtFault }
+    {
         let mut at = ACTUALS;
         for place in 0..self.actuals.len() {
             let passed = self.passed(scope, place, at)?;
@@ -186,7 +186,9 @@ impl<'s, 'a> Instance<'s, 'a> {
     }
 
     /// An actual that may not be passed beside one before it.
-    pub(crate) fn passed_twice(self, scope: &Scope<'a>) -> Option<Cause<'a>> {
+    pub(crate) fn passed_twice(self, scope: &Scope<'a>) -> Option<Cause<'a>>
+        ensures { IfSome result IsAtFault }
+    {
         let mut at = ACTUALS;
         for place in 0..self.actuals.len() {
             let second = self.passed(scope, place, at)?;
@@ -199,7 +201,9 @@ impl<'s, 'a> Instance<'s, 'a> {
     }
 
     /// This actual, if it may not be passed beside one before it.
-    fn passed_before(self, scope: &Scope<'a>, second: Passed<'s, 'a>) -> Option<Cause<'a>> {
+    fn passed_before(self, scope: &Scope<'a>, second: Passed<'s, 'a>) -> Option<Cause<'a>>
+        ensures { IfSome result IsAtFault }
+    {
         let mut at = ACTUALS;
         for place in 0..second.place {
             let first = self.passed(scope, place, at)?;

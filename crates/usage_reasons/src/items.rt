@@ -2,6 +2,7 @@
 
 ghost use Rattle.std.specs.Prelude.{◌≡◌, length, map, IfOk, IfSome};
 ghost use Rattle.occam_parser.specs.BlockViews.{item_of};
+ghost use Rattle.usage_reasons.specs.AtFault.{AreAtFault};
 ghost use Rattle.usage_reasons.specs.LastItems.{IsMainReason};
 ghost use Rattle.usage_reasons.specs.Reasons.{IsReasonOf};
 
@@ -11,12 +12,10 @@ use crate::site::Part;
 use crate::walk::{Walk, tested};
 use occam_layout::Token;
 use occam_parser::{Constant, Formal, Item, Proc, Program};
-use program_uses::{
-    Around, NO_MAIN, Parameter, UsageFault, Uses, constant_meaning, formal_meaning, signed,
-};
+use program_uses::{Around, NO_MAIN, Parameter, UsageFault, Uses, constant_meaning, signed};
 use scalar_ranges::Meaning;
 use std::alloc::{AllocError, Global};
-use usage_checks::Position;
+use usage_checks::{Position, is_main_name, parameters_for};
 
 impl<'a> Walk<'_, 'a> {
     /// A constant of the program.
@@ -24,17 +23,6 @@ impl<'a> Walk<'_, 'a> {
         self.look(constant.line, Part::Constant(constant));
         let meaning = constant_meaning(&self.scope, constant.value_type, &constant.value);
         self.enter(0, constant.line, constant.name, meaning);
-    }
-
-    /// What is known of formals by their head.
-    fn parameters(&self, formals: &[Formal<'a>]) -> Result<Vec<Parameter>, AllocError> {
-        let mut parameters = Vec::new(self.alloc);
-        for formal in formals {
-            let meaning = formal_meaning(&self.scope, formal);
-            let ends = Vec::new(self.alloc);
-            parameters.push(Parameter { meaning, ends })?;
-        }
-        Ok(parameters)
     }
 
     /// The names of formals, on the line of their procedure.
@@ -77,7 +65,7 @@ impl<'a> Walk<'_, 'a> {
             formals: first,
             declared: self.scope.len(),
             parallel: 0,
-            is_main: proc.name == b"main".as_slice(),
+            is_main: is_main_name(proc.name),
         };
         self.process(&proc.body);
     }
@@ -97,7 +85,7 @@ impl<'a> Walk<'_, 'a> {
         self.look(proc.line, Part::Formals(&proc.formals));
         let first = self.scope.len();
         let number = self.signatures.len();
-        match self.parameters(&proc.formals) {
+        match parameters_for(self.alloc, &self.scope, &proc.formals) {
             Ok(parameters) => self.within(first, proc, ends, parameters),
             Err(_) => self.complete = false,
         }
@@ -141,6 +129,9 @@ pub fn usage_reason<'a>(
 ) -> Result<Option<Reason<'a>>, AllocError>
     // The reason is of the fault's line and number, and its tokens are some of the line's.
     ensures is_of { IfOk result (λ found. IfSome found (IsReasonOf (length tokens.now) fault)) }
+
+    // A part of as many tokens breaks a rule for that reason, by what some scope knows; a channel by where some line is.
+    ensures at_fault { IfOk result (λ found. IfSome found (λ r. ∥ AreAtFault r.tokens r.why ∥₁)) }
 
     // O19 is told of the last item.
     ensures main { fault.number ≡ NO_MAIN → IfOk result (λ found.

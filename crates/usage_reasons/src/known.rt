@@ -6,7 +6,7 @@ ghost use Rattle.usage_reasons.specs.Causes.{Explains};
 
 use crate::cause::Cause;
 use crate::reason::{KnownName, Tokens, Why};
-use occam_layout::{Token, TokenKind};
+use occam_layout::{Mark, Token, TokenKind};
 use scalar_ranges::Scope;
 use std::alloc::{AllocError, Global};
 
@@ -140,11 +140,22 @@ fn is_name(token: &Token, name: &[u8]) -> bool {
     }
 }
 
-/// The number of the token that is this name for the first or for the second time.
+/// How many brackets of sizes are open after a token.
+fn depth_after(depth: usize, token: &Token) -> usize {
+    match token.kind {
+        TokenKind::Mark(Mark::OpenBracket) => depth.saturating_add(1),
+        TokenKind::Mark(Mark::CloseBracket) => depth.saturating_sub(1),
+        _ => depth,
+    }
+}
+
+/// The number of the token that is this name for the first or for the second time, but for names in sizes.
 fn token_of(tokens: &[Token], name: &[u8], second: bool) -> Option<usize> {
     let mut found = None;
+    let mut depth = 0;
     for (at, token) in tokens.iter().enumerate() {
-        if is_name(token, name) {
+        depth = depth_after(depth, token);
+        if depth == 0 && is_name(token, name) {
             if found.is_some() == second {
                 return Some(at);
             }

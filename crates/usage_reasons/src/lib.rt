@@ -19,7 +19,6 @@ mod sharing;
 mod site;
 mod sorts;
 mod subscripts;
-mod taking;
 mod tokens;
 mod types;
 mod walk;

@@ -3,6 +3,7 @@
 ghost use Rattle.std.specs.Prelude.{◌≡◌, IfSome, option_map};
 ghost use Rattle.scalar_ranges.specs.Entries.{meaning_in};
 ghost use Rattle.scalar_ranges.specs.Scopes.{entries_of, meaning_of};
+ghost use Rattle.usage_reasons.specs.AtFault.{IsAtFault};
 ghost use Rattle.usage_reasons.specs.Causes.{Explains};
 ghost use Rattle.usage_reasons.specs.Sorts.{carried};
 
@@ -185,7 +186,9 @@ fn other_target<'a>(
     channel: &[u8],
     place: Tokens,
     target: &Place<'a>,
-) -> Option<Cause<'a>> {
+) -> Option<Cause<'a>>
+    ensures { IfSome result (Explains (entries_of scope.now)) }
+{
     let found = carried_by(scope, target.name)?;
     let wanted = carried_by(scope, channel)?;
     if is_same(found, wanted) {
@@ -255,7 +258,9 @@ pub(crate) fn in_input<'a>(
     at: usize,
     channel: &Place<'a>,
     target: &Place<'a>,
-) -> Option<Cause<'a>> {
+) -> Option<Cause<'a>>
+    ensures { IfSome result (Explains (entries_of scope.now)) }
+{
     if let Some(cause) = in_channel(scope, rule, at, channel) {
         return Some(cause);
     }
@@ -308,7 +313,10 @@ fn count_below_zero<'a>(scope: &Scope<'a>, at: usize, expr: &Expr<'a>) -> Option
 }
 
 /// A base and a count whose last index is beyond the greatest INT.
-fn last_index<'a>(scope: &Scope<'a>, replicator: &Replicator<'a>) -> Option<Cause<'a>> {
+#[tactic(auto, using(crate::specs::AtFault::left_out))]
+fn last_index<'a>(scope: &Scope<'a>, replicator: &Replicator<'a>) -> Option<Cause<'a>>
+    ensures { IfSome result IsAtFault }
+{
     let base = value_as(scope, ExprType::Int, &replicator.base)?;
     let count = value_as(scope, ExprType::Int, &replicator.count)?;
     if i64::from(base) + i64::from(count) <= i64::from(i32::MAX) + 1 {
@@ -322,7 +330,10 @@ fn last_index<'a>(scope: &Scope<'a>, replicator: &Replicator<'a>) -> Option<Caus
 }
 
 /// A count that is below 0, or that goes beyond the greatest INT from the base on.
-fn no_count<'a>(scope: &Scope<'a>, at: usize, replicator: &Replicator<'a>) -> Option<Cause<'a>> {
+#[tactic(auto, using(crate::proofs::AtFault::explained))]
+fn no_count<'a>(scope: &Scope<'a>, at: usize, replicator: &Replicator<'a>) -> Option<Cause<'a>>
+    ensures { IfSome result IsAtFault }
+{
     if let Some(cause) = count_below_zero(scope, at, &replicator.count) {
         return Some(cause);
     }
@@ -330,11 +341,14 @@ fn no_count<'a>(scope: &Scope<'a>, at: usize, replicator: &Replicator<'a>) -> Op
 }
 
 /// The part of the head of a replicated block that breaks a rule.
+#[tactic(auto, using(crate::proofs::AtFault::explained))]
 pub(crate) fn in_replicator<'a>(
     scope: &Scope<'a>,
     rule: Rule,
     replicator: &Replicator<'a>,
-) -> Option<Cause<'a>> {
+) -> Option<Cause<'a>>
+    ensures { IfSome result IsAtFault }
+{
     let wanted = Wanted::Constant(ExprType::Int);
     if let Some(cause) = in_wanted(scope, rule, BASE, wanted, &replicator.base) {
         return Some(cause);

@@ -1,37 +1,17 @@
 //! Why the last item of a program is not `main`.
 
 ghost use Rattle.std.specs.Prelude.{◌≡◌, true, false, IfSome, MatchOption, map, option_map};
-ghost use Rattle.occam_parser.specs.LineViews.{any_of, formal_of};
+ghost use Rattle.occam_parser.specs.LineViews.{formal_of};
 ghost use Rattle.occam_parser.specs.BlockViews.{item_of, procedure_of};
-ghost use Rattle.usage_checks.specs.MainRules.{is_link_as, are_links, is_main_name};
+ghost use Rattle.usage_checks.specs.MainRules.{are_links};
 ghost use Rattle.usage_reasons.specs.LastItems.{fault_of_procedure, fault_of_last, IsMainReason};
 
 use crate::declarations::width_of_formal;
 use crate::reason::{LastItem, Reason, Tokens, Why};
 use crate::tokens::plus_between;
-use occam_parser::{Expr, Formal, FormalKind, Item, Proc};
-use program_uses::link_way;
+use occam_parser::{Formal, Item, Proc};
 use std::alloc::Global;
-
-/// Whether a formal of this kind, size and name is a link of `main`.
-fn is_link_as(kind: FormalKind, size: &Option<Expr>, name: &[u8]) -> bool
-    ensures { result ≡ is_link_as kind (any_of size.now) name.now }
-{
-    match (kind, size) {
-        (FormalKind::Channel, None) => link_way(name).is_some(),
-        _ => false,
-    }
-}
-
-/// Whether a procedure of this name may be `main`.
-fn is_main_name(name: &[u8]) -> bool
-    ensures { result ≡ is_main_name name.now }
-{
-    match name {
-        [a, b, c, d] => *a == b'm' && *b == b'a' && *c == b'i' && *d == b'n',
-        _ => false,
-    }
-}
+use usage_checks::{is_link_as, is_main_name};
 
 /// The first formal that is no link, by its tokens.
 fn no_link(formals: &[Formal]) -> Option<Tokens>

@@ -1,6 +1,7 @@
 //! Why a line breaks a usage rule.
 
 ghost use Rattle.std.specs.Prelude.{◌≡◌};
+ghost use Rattle.usage_reasons.specs.AtFault.{AreAtFault};
 ghost use Rattle.usage_reasons.specs.Numbers.{number_of};
 
 use occam_parser::{ArithmeticChain, ArithmeticPair, ValueType};
@@ -257,6 +258,7 @@ pub struct Reason<'a> {
     /// The tokens of the line that are meant.
     pub tokens: Tokens,
     pub why: Why<'a>,
+    ghost at_fault: { ∥ AreAtFault tokens why ∥₁ },
     /// What is known of the names in these tokens, in their order and each once; eight at most. Of a subscript the array's
     /// name is among them, of a value that of the place that it goes to, and of an actual that of its procedure or of
     /// the actual before it.

@@ -1,5 +1,8 @@
 //! What two components of a `PAR` share, and on which lines.
 
+ghost use Rattle.std.specs.Prelude.{◌≡◌, IfSome, true};
+ghost use Rattle.usage_reasons.specs.AtFault.{is_left_out, IsAtFault};
+
 use crate::cause::Cause;
 use crate::known::Names;
 use crate::reason::{Deed, Tokens, Why};
@@ -16,8 +19,8 @@ use scalar_ranges::{Meaning, Scope};
 use std::alloc::Global;
 use std::collections::BTreeMap;
 
-/// How many turns of replicators are gone over at most.
-const MAX_TURNS: u32 = 100_000;
+/// How many turns of replicators are gone over at most: as many as `check` goes over.
+const MAX_TURNS: u32 = 8_388_608;
 
 /// A line of a component of a `PAR`.
 #[derive(Clone, Copy)]
@@ -167,7 +170,9 @@ fn deed_of(item: Use) -> Deed {
 }
 
 /// Why components share what they may not share.
-fn why_shared<'a>(names: Names<'_, 'a>, shared: Shared) -> Option<Why<'a>> {
+fn why_shared<'a>(names: Names<'_, 'a>, shared: Shared) -> Option<Why<'a>>
+    ensures { IfSome result (λ w. is_left_out w ≡ true) }
+{
     match shared.second {
         Use::Read(number) | Use::Change(number) => Some(Why::SharedVariable {
             variable: names.declared(number)?,
@@ -191,7 +196,10 @@ fn why_shared<'a>(names: Names<'_, 'a>, shared: Shared) -> Option<Why<'a>> {
 }
 
 /// What components of a `PAR` share, whose first token is meant.
-fn cause_of<'a>(names: Names<'_, 'a>, shared: Option<Shared>) -> Option<Cause<'a>> {
+#[tactic(auto, using(crate::specs::AtFault::left_out))]
+fn cause_of<'a>(names: Names<'_, 'a>, shared: Option<Shared>) -> Option<Cause<'a>>
+    ensures { IfSome result IsAtFault }
+{
     let why = why_shared(names, shared?)?;
     let tokens = Tokens { at: 0, len: 1 };
     Some(Cause { tokens, why })

@@ -1,5 +1,10 @@
 //! Why a part of the line at fault breaks its rule, with what is known where it is.
 
+ghost use Rattle.std.specs.Prelude.{IfSome};
+ghost use Rattle.scalar_ranges.specs.Scopes.{entries_of};
+ghost use Rattle.usage_reasons.specs.AtFault.{IsAtFault};
+ghost use Rattle.usage_reasons.specs.Causes.{Explains};
+
 use crate::cause::{Cause, Rule};
 use crate::declarations::{in_constant, in_declaration, in_formals};
 use crate::instances::Instance;
@@ -63,7 +68,10 @@ pub(crate) struct Site<'s, 'a> {
 
 impl<'a> Site<'_, 'a> {
     /// Why a part of the line breaks the rule.
-    pub(crate) fn cause(self, part: Part<'_, 'a>) -> Option<Cause<'a>> {
+    #[tactic(auto, using(crate::proofs::AtFault::explained))]
+    pub(crate) fn cause(self, part: Part<'_, 'a>) -> Option<Cause<'a>>
+        ensures { IfSome result IsAtFault }
+    {
         match part {
             Part::Input {
                 at,
@@ -77,7 +85,10 @@ impl<'a> Site<'_, 'a> {
     }
 
     /// Why a channel may not be used so, which begins at this token.
-    fn misused(self, at: usize, channel: &Place<'a>, direction: Direction) -> Option<Cause<'a>> {
+    #[tactic(auto, using(crate::proofs::AtFault::explained))]
+    fn misused(self, at: usize, channel: &Place<'a>, direction: Direction) -> Option<Cause<'a>>
+        ensures { IfSome result IsAtFault }
+    {
         if self.number == CHANNEL_USE {
             misused_channel(self.position, self.scope, at, channel, direction)
         } else {
@@ -86,7 +97,10 @@ impl<'a> Site<'_, 'a> {
     }
 
     /// Why an input breaks the rule, which begins at this token.
-    fn in_input(self, at: usize, channel: &Place<'a>, target: &Place<'a>) -> Option<Cause<'a>> {
+    #[tactic(auto, using(crate::proofs::AtFault::explained))]
+    fn in_input(self, at: usize, channel: &Place<'a>, target: &Place<'a>) -> Option<Cause<'a>>
+        ensures { IfSome result IsAtFault }
+    {
         match rule_of(self.number) {
             Some(rule) => in_input(self.scope, rule, at, channel, target),
             None => self.misused(at, channel, Direction::Input),
@@ -94,7 +108,10 @@ impl<'a> Site<'_, 'a> {
     }
 
     /// Why an output breaks the rule.
-    fn in_output(self, channel: &Place<'a>, value: &Expr<'a>) -> Option<Cause<'a>> {
+    #[tactic(auto, using(crate::proofs::AtFault::explained))]
+    fn in_output(self, channel: &Place<'a>, value: &Expr<'a>) -> Option<Cause<'a>>
+        ensures { IfSome result IsAtFault }
+    {
         match rule_of(self.number) {
             Some(rule) => in_output(self.scope, rule, channel, value),
             None => self.misused(0, channel, Direction::Output),
@@ -102,7 +119,10 @@ impl<'a> Site<'_, 'a> {
     }
 
     /// Why an action breaks the rule.
-    fn in_action(self, action: &Action<'a>) -> Option<Cause<'a>> {
+    #[tactic(auto, using(crate::proofs::AtFault::explained))]
+    fn in_action(self, action: &Action<'a>) -> Option<Cause<'a>>
+        ensures { IfSome result IsAtFault }
+    {
         match action {
             Action::Skip | Action::Stop => None,
             Action::Input { channel, target } => self.in_input(0, channel, target),
@@ -117,7 +137,10 @@ impl<'a> Site<'_, 'a> {
     }
 
     /// Why an instance breaks the rule.
-    fn in_instance(self, name: &[u8], actuals: &[Expr<'a>]) -> Option<Cause<'a>> {
+    #[tactic(auto, using(crate::proofs::AtFault::explained))]
+    fn in_instance(self, name: &[u8], actuals: &[Expr<'a>]) -> Option<Cause<'a>>
+        ensures { IfSome result IsAtFault }
+    {
         let instance = Instance {
             signatures: self.signatures,
             name,
@@ -138,13 +161,20 @@ impl<'a> Site<'_, 'a> {
     }
 
     /// Why the head of a block under a replicator breaks the rule.
-    fn in_replicator(self, replicator: &Replicator<'a>) -> Option<Cause<'a>> {
+    #[tactic(auto, using(crate::proofs::AtFault::explained))]
+    fn in_replicator(self, replicator: &Replicator<'a>) -> Option<Cause<'a>>
+        ensures { IfSome result IsAtFault }
+    {
         let cause = in_replicator(self.scope, rule_of(self.number)?, replicator);
         self.or_too_large(cause)
     }
 
     /// A cause, or that the program goes beyond the size that is gone over, if the line breaks the rule in no other way.
-    fn or_too_large(self, cause: Option<Cause<'a>>) -> Option<Cause<'a>> {
+    #[tactic(auto, using(crate::specs::AtFault::left_out))]
+    fn or_too_large(self, cause: Option<Cause<'a>>) -> Option<Cause<'a>>
+        requires { IfSome cause IsAtFault }
+        ensures { IfSome result IsAtFault }
+    {
         if cause.is_some() || self.number != OUT_OF_RANGE || self.is_repeated {
             return cause;
         }
@@ -158,7 +188,9 @@ impl<'a> Site<'_, 'a> {
 }
 
 /// Why a declaration, formals or a condition break a rule.
-fn in_head<'a>(scope: &Scope<'a>, rule: Rule, part: Part<'_, 'a>) -> Option<Cause<'a>> {
+fn in_head<'a>(scope: &Scope<'a>, rule: Rule, part: Part<'_, 'a>) -> Option<Cause<'a>>
+    ensures { IfSome result (Explains (entries_of scope.now)) }
+{
     match part {
         Part::Constant(constant) => in_constant(scope, rule, constant),
         Part::Declaration(declaration) => in_declaration(scope, rule, declaration),

@@ -1,6 +1,7 @@
 //! The walk over a program once more, as far as the line at fault.
 
 ghost use Rattle.std.specs.Prelude.{◌≡◌, true, Some, IfOk, IfSome};
+ghost use Rattle.usage_reasons.specs.AtFault.{IsAtFault};
 ghost use Rattle.usage_reasons.specs.Reasons.{IsReasonOf};
 
 use crate::cause::Cause;
@@ -121,7 +122,9 @@ impl<'l, 'a> Walk<'l, 'a> {
     }
 
     /// The reason that a cause is, with what is known here.
-    pub(crate) fn explain(&mut self, cause: Option<Cause<'a>>) {
+    pub(crate) fn explain(&mut self, cause: Option<Cause<'a>>)
+        requires { IfSome cause IsAtFault }
+    {
         let Some(cause) = cause else { return };
         match self.names().known_in(self.alloc, self.tokens, cause) {
             Ok(known) => {
@@ -136,9 +139,9 @@ impl<'l, 'a> Walk<'l, 'a> {
         }
     }
 
-    /// A part of this line, which may be the one at fault.
+    /// A part of this line, which may be the one at fault: its first part that breaks the rule is meant.
     pub(crate) fn look(&mut self, line: u32, part: Part<'_, 'a>) {
-        if line == self.fault.line {
+        if line == self.fault.line && self.reason.is_none() {
             let cause = self.site().cause(part);
             self.explain(cause);
         }
@@ -153,6 +156,7 @@ impl<'l, 'a> Walk<'l, 'a> {
     }
 
     /// A name that a line declares, of the scope whose first declaration has this number.
+    #[tactic(auto, using(crate::proofs::AtFault::explained))]
     pub(crate) fn enter(&mut self, first: usize, line: u32, name: &'a [u8], meaning: Meaning) {
         let is_asked = self.fault.line == line && self.fault.number == DECLARED_TWICE;
         if is_asked && self.reason.is_none() {

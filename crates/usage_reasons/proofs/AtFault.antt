@@ -1,0 +1,10 @@
+-- Why tokens are at fault.
+use Rattle.std.proofs.Common.{List}
+use Rattle.scalar_ranges.specs.Entries.{Entry}
+use Rattle.usage_reasons.specs.declared.cause.Cause.{Cause}
+use Rattle.usage_reasons.specs.Causes.{Explains}
+use Rattle.usage_reasons.specs.AtFault.{IsAtFault, broken}
+
+-- by what a scope knows
+pub explained : (es : List Entry) (c : Cause) → Explains es c → IsAtFault c
+explained es c h = broken es c.why h
