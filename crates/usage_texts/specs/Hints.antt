@@ -37,7 +37,7 @@ abbrev pub sort_hint : Sort → Option Text
 sort_hint sort.Scalar = Some (codes "an array is used by its elements, as a[0], and a channel in inputs and outputs")
 sort_hint sort.Variable =
     Some (codes "constants, VAL parameters and replicators keep their value; arrays change by elements")
-sort_hint sort.VariableArray = Some (codes "tables and VAL parameters keep their values")
+sort_hint sort.VariableArray = Some (codes "only arrays have subscripts; tables and VAL parameters keep their values")
 sort_hint sort.Channel = Some (codes "channels are declared, as CHAN OF INT c, and elements are c[0]")
 sort_hint sort.Array = Some (codes "only arrays have subscripts")
 sort_hint sort.ChannelArray = Some (codes "only arrays have subscripts")
@@ -46,7 +46,7 @@ sort_hint sort.Procedure = Some (codes "an instance begins with the name of a pr
 -- what a parameter takes
 abbrev pub parameter_hint : Meaning → Option Text
 parameter_hint (meaning.Scalar scalar.Reference type range) =
-    Some (codes "a parameter without VAL takes the name of a variable; assign an element to one before")
+    Some (codes "a parameter without VAL takes the name of a variable of its type; assign an element to one before")
 parameter_hint (meaning.Scalar kind type range) = Some (codes "a VAL parameter takes an expression of its type")
 parameter_hint (meaning.Array array.Value type size range) =
     Some (codes "it takes the name of an array or a table of this type and size")
@@ -68,11 +68,13 @@ wrap_hint o = None
 -- where something is out of range or too large
 abbrev pub range_hint : Why → Option Text
 range_hint (why.Overflow o left right results) = wrap_hint o
-range_hint (why.Division o dividend divisor) = Some (codes "a choice of an IF excludes other divisors, as y > 0")
+range_hint (why.Division o dividend divisor) =
+    Some (codes "of a local variable y a choice of an IF excludes other divisors, as y > 0")
 range_hint (why.ShiftCount count) = Some (codes "n /\\ 31 is 0..31 where n is not negative")
-range_hint (why.Conversion to operand) = Some (codes "an IF with the choices x < 0 and x < 256 leaves 0..255")
+range_hint (why.Conversion to operand) =
+    Some (codes "of a local variable x the choices x < 0 and x < 256 of an IF leave 0..255")
 range_hint (why.Outside size subscript) =
-    Some (codes "choices of an IF, one for each end, leave a range; AND and OR leave none")
+    Some (codes "choices of an IF, one for each end, leave a range of a local variable; AND and OR leave none")
 range_hint why.TooLarge = Some (codes "under a replicated PAR, IF or ALT each index is gone over")
 range_hint w = None
 
@@ -89,16 +91,16 @@ known_hint (why.OtherPlaceType found wanted place) = place_hint found wanted
 known_hint (why.OtherTypes left right) = Some (codes "INT before a BYTE makes it an INT, as INT b")
 known_hint (why.OtherSort wanted) = sort_hint wanted
 known_hint why.TextOfInts = Some (codes "write the items, as [97, 98], or a table of BYTE")
-known_hint why.NoConstant =
-    Some (codes "sizes, counts and subscripts of channels are constants; a loop ends early by an IF in it")
+known_hint why.NoConstant = Some (codes
+    "what VAL names, sizes, counts and subscripts of channels are constants; a loop ends early by an IF in it")
 known_hint (why.NotTaken place parameter found) = parameter_hint parameter
 known_hint (why.SharedVariable variable first first_deed second second_deed) =
-    Some (codes "what one component changes no other one uses; send it on a channel")
+    Some (codes "what one component changes no other one uses, and an array is one variable; send it on a channel")
 known_hint (why.SharedChannel channel element direction first second) =
     Some (codes "one component receives from a channel and one sends to it; declare one more channel")
 known_hint why.OutsidePar = Some (codes "a channel is between components of a PAR below its declaration")
 known_hint (why.OtherDirection direction) = Some (codes "main receives from in0 to in3 and sends to out0 to out3")
-known_hint (why.PassedTwice first) = Some (codes "pass a copy, or another one")
+known_hint (why.PassedTwice first) = Some (codes "pass another one, or a copy of a variable")
 known_hint (why.NoMain last) =
     Some (codes "the last procedure is main; its parameters are as CHAN OF BYTE in0, up to in3 and out3")
 known_hint w = range_hint w

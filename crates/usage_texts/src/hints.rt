@@ -50,7 +50,9 @@ fn sort_hint(wanted: Sort) -> Option<&'static str>
         Sort::Variable => Some(
             "constants, VAL parameters and replicators keep their value; arrays change by elements",
         ),
-        Sort::VariableArray => Some("tables and VAL parameters keep their values"),
+        Sort::VariableArray => Some(
+            "only arrays have subscripts; tables and VAL parameters keep their values",
+        ),
         Sort::Channel => Some("channels are declared, as CHAN OF INT c, and elements are c[0]"),
         Sort::Array | Sort::ChannelArray => Some("only arrays have subscripts"),
         Sort::Procedure => Some("an instance begins with the name of a procedure"),
@@ -66,7 +68,7 @@ fn parameter_hint(parameter: Meaning) -> Option<&'static str>
             kind: ScalarKind::Reference,
             ..
         } => Some(
-            "a parameter without VAL takes the name of a variable; assign an element to one before",
+            "a parameter without VAL takes the name of a variable of its type; assign an element to one before",
         ),
         Meaning::Scalar { .. } => Some("a VAL parameter takes an expression of its type"),
         Meaning::Array {
@@ -103,11 +105,15 @@ fn range_hint(why: Why<'_>) -> Option<&'static str>
 {
     match why {
         Why::Overflow { operator, .. } => wrap_hint(operator),
-        Why::Division { .. } => Some("a choice of an IF excludes other divisors, as y > 0"),
+        Why::Division { .. } => Some(
+            "of a local variable y a choice of an IF excludes other divisors, as y > 0",
+        ),
         Why::ShiftCount { .. } => Some("n /\\ 31 is 0..31 where n is not negative"),
-        Why::Conversion { .. } => Some("an IF with the choices x < 0 and x < 256 leaves 0..255"),
+        Why::Conversion { .. } => Some(
+            "of a local variable x the choices x < 0 and x < 256 of an IF leave 0..255",
+        ),
         Why::Outside { .. } => Some(
-            "choices of an IF, one for each end, leave a range; AND and OR leave none",
+            "choices of an IF, one for each end, leave a range of a local variable; AND and OR leave none",
         ),
         Why::TooLarge => Some("under a replicated PAR, IF or ALT each index is gone over"),
         _ => None,
@@ -137,11 +143,11 @@ fn known_hint(why: Why<'_>) -> Option<&'static str>
         Why::OtherSort { wanted } => sort_hint(wanted),
         Why::TextOfInts => Some("write the items, as [97, 98], or a table of BYTE"),
         Why::NoConstant => Some(
-            "sizes, counts and subscripts of channels are constants; a loop ends early by an IF in it",
+            "what VAL names, sizes, counts and subscripts of channels are constants; a loop ends early by an IF in it",
         ),
         Why::NotTaken { parameter, .. } => parameter_hint(parameter),
         Why::SharedVariable { .. } => Some(
-            "what one component changes no other one uses; send it on a channel",
+            "what one component changes no other one uses, and an array is one variable; send it on a channel",
         ),
         Why::SharedChannel { .. } => Some(
             "one component receives from a channel and one sends to it; declare one more channel",
@@ -150,7 +156,7 @@ fn known_hint(why: Why<'_>) -> Option<&'static str>
         Why::OtherDirection { .. } => Some(
             "main receives from in0 to in3 and sends to out0 to out3",
         ),
-        Why::PassedTwice { .. } => Some("pass a copy, or another one"),
+        Why::PassedTwice { .. } => Some("pass another one, or a copy of a variable"),
         Why::NoMain(_) => Some(
             "the last procedure is main; its parameters are as CHAN OF BYTE in0, up to in3 and out3",
         ),
