@@ -2,24 +2,11 @@
 
 use crate::parts::{Part, Visitor};
 use crate::walk::Place;
-use occam_parser::{Formal, Item, Proc};
-use program_uses::{
-    Around, Parameter, Signature, add_name, constant_meaning, formal_meaning, list_changes,
-};
+use occam_parser::{Item, Proc};
+use program_uses::{Signature, add_name, constant_meaning, list_changes};
 use scalar_ranges::{Meaning, Scope};
 use std::alloc::{AllocError, Global};
-use usage_checks::add_formals;
-
-/// What those that call a procedure know of its formals, but for the ends of channels that it uses.
-fn signature_of(alloc: Global, scope: &Scope, formals: &[Formal]) -> Result<Signature, AllocError> {
-    let mut parameters = Vec::new(alloc);
-    for formal in formals {
-        let meaning = formal_meaning(scope, formal);
-        let ends = Vec::new(alloc);
-        parameters.push(Parameter { meaning, ends })?;
-    }
-    Ok(Signature { parameters })
-}
+use usage_checks::{add_formals, parameters_for};
 
 /// The body of a procedure, whose formals are known.
 fn walk_body<'a, V: Visitor>(
@@ -32,16 +19,13 @@ fn walk_body<'a, V: Visitor>(
     let lists = list_changes(alloc, signatures, scope, &proc.body)?;
     let place = Place {
         alloc,
-        around: Around {
-            signatures,
-            uncounted: None,
-        },
+        signatures,
         lists: &lists,
     };
     place.walk(visitor, scope, &proc.body)
 }
 
-/// A procedure, and its name.
+/// A procedure, and its name. Returns what those that call it know, but for the ends of channels that it uses.
 fn walk_proc<'a, V: Visitor>(
     alloc: Global,
     visitor: &mut V,
@@ -49,14 +33,14 @@ fn walk_proc<'a, V: Visitor>(
     scope: &mut Scope<'a>,
     proc: &Proc<'a>,
 ) -> Result<Signature, AllocError> {
-    let signature = signature_of(alloc, scope, &proc.formals)?;
+    let parameters = parameters_for(alloc, scope, &proc.formals)?;
     let count = scope.len();
     add_formals(alloc, scope, &proc.formals)?;
     walk_body(alloc, visitor, signatures, scope, proc)?;
     scope.leave(count);
     let number = u32::try_from(signatures.len()).map_err(|_| AllocError)?;
     add_name(scope, proc.name, Meaning::Proc(number))?;
-    Ok(signature)
+    Ok(Signature { parameters })
 }
 
 /// An item, with what those after it know of it.

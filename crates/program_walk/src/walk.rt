@@ -6,7 +6,7 @@ use occam_parser::{
     Action, Body, Branch, Choice, Construct, Declaration, Expr, Guard, Process, Replicator,
 };
 use program_uses::{
-    Around, ChangeLists, add_name, repeats_of, variables_changed, variables_changed_in,
+    ChangeLists, Signature, add_name, repeats_of, variables_changed, variables_changed_in,
 };
 use scalar_ranges::{Scope, narrow_by};
 use std::alloc::{AllocError, Global};
@@ -16,7 +16,8 @@ use usage_checks::{after_action, after_input};
 #[derive(Clone, Copy)]
 pub(crate) struct Place<'s> {
     pub(crate) alloc: Global,
-    pub(crate) around: Around<'s>,
+    /// What is known of the procedures before.
+    pub(crate) signatures: &'s [Signature],
     /// What the constructs in the procedure change.
     pub(crate) lists: &'s ChangeLists,
 }
@@ -70,7 +71,7 @@ impl<'s> Place<'s> {
         match self.lists.on_line(line) {
             Some(numbers) => scope.begin_loop(numbers),
             None => {
-                let signatures = self.around.signatures;
+                let signatures = self.signatures;
                 let numbers = variables_changed_in(
                     self.alloc, signatures, scope, replicator, body,
                 )?;
@@ -103,7 +104,7 @@ impl<'s> Place<'s> {
         action: &Action,
     ) {
         visitor.visit(scope, line, Part::Action(action));
-        after_action(scope, self.around.signatures, action);
+        after_action(scope, self.signatures, action);
     }
 
     /// A process, with what it declares.
@@ -214,7 +215,7 @@ impl<'s> Place<'s> {
                 scope.next_component(numbers);
             }
             None => {
-                let signatures = self.around.signatures;
+                let signatures = self.signatures;
                 let numbers = variables_changed(self.alloc, signatures, scope, process)?;
                 self.walk(visitor, scope, process)?;
                 scope.next_component(&numbers);
