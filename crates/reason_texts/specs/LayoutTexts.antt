@@ -61,7 +61,8 @@ abbrev pub byte_hint : ℕ → Option Text
 byte_hint byte =
     if byte == 9 then Some (codes "a source has no tabs; a level is two spaces")
     else (if byte == 13 then Some (codes "lines end with a line feed alone, and not with a carriage return before it")
-    else (if byte == 59 then Some (codes "a message has one part; send the parts one after the other, in a SEQ")
+    else (if byte == 59 then
+    Some (codes "no `;` ends a line; the parts of a message are sent one after the other, in a SEQ")
     else (if byte == 95 then Some (codes "a name has letters, digits and dots")
     else (if byte == 46 then Some (codes "there are no real numbers, and a name begins with a letter")
     else (if nat_le 128 byte then Some (codes "a source is ASCII, in comments and strings too") else None)))))
@@ -70,14 +71,15 @@ abbrev pub token_hint : TokenFault → ℕ → Option Text
 token_hint wrong.NoToken byte = byte_hint byte
 token_hint wrong.LargeNumber byte = Some (codes "the least number is MOSTNEG INT")
 token_hint (wrong.HexadecimalDigits count) byte =
-    if count == 0 then Some (codes "there are no directives such as #USE; a program is one source") else None
+    if count == 0 then Some (codes "a hexadecimal number is written #1F; there are no directives such as #USE") else None
 token_hint wrong.Unclosed byte = None
 token_hint wrong.Unspelled byte = Some (codes "the spellings are *c *n *t *s *' *\" ** and *# with two digits")
 token_hint wrong.NotOneCharacter byte =
-    Some (codes "a text of several characters is a table, as VAL [2]BYTE t IS \"ab\":")
+    Some (codes "a text of several characters is a table, as VAL [2]BYTE t IS \"ab\":, and a line feed is '*n'")
 
 abbrev pub hint : LayoutReason → ℕ → Option Text
-hint (reason.OddIndentation spaces) byte = Some (codes "an expression does not go on on the next line")
+hint (reason.OddIndentation spaces) byte =
+    Some (codes "each level is two spaces more; a line does not go on on the next one")
 hint (reason.TooDeep level above) byte =
     Some (codes "a line is at most one level, of two spaces, below the line above it")
 hint (reason.NoCharacter at) byte = byte_hint byte

@@ -143,6 +143,7 @@ shape_hint f found = None
 abbrev pub action_hint : Option TokenKind → Option Text
 action_hint (Some (token.Mark mark.Comma)) = Some (codes "one variable is assigned at a time; write a SEQ")
 action_hint (Some (token.Mark mark.Equal)) = Some (codes "an assignment is written x := 1")
+action_hint None = Some (codes "a process on one line is as x := 1, c ? x, c ! 1, or an instance p ()")
 action_hint found = None
 
 -- where a process is wanted
@@ -181,8 +182,8 @@ lack_hint f lack.Mixture found =
 abbrev pub reason_hint : ParseReason → Option TokenKind → Option Text
 reason_hint (reason.Form f s) found = lack_hint f s.lack found
 reason_hint (reason.NothingBelow above) found = None
-reason_hint (reason.OnlyOne head first) found =
-    Some (codes "several processes are below a SEQ or a PAR, one level deeper")
+reason_hint (reason.OnlyOne head first) found = Some (codes
+    "a replicator, a choice, a guard and a PROC have one process below; several are below a SEQ or a PAR, one level deeper")
 reason_hint reason.MissingColon found = Some (codes "a procedure ends with a line `:` at level 0")
 reason_hint reason.MissingBody found =
     Some (codes "declarations alone are no body; SKIP is a process that does nothing")

@@ -90,7 +90,9 @@ fn byte_hint(byte: u8) -> Option<&'static str>
     match byte {
         b'\t' => Some("a source has no tabs; a level is two spaces"),
         b'\r' => Some("lines end with a line feed alone, and not with a carriage return before it"),
-        b';' => Some("a message has one part; send the parts one after the other, in a SEQ"),
+        b';' => Some(
+            "no `;` ends a line; the parts of a message are sent one after the other, in a SEQ",
+        ),
         b'_' => Some("a name has letters, digits and dots"),
         b'.' => Some("there are no real numbers, and a name begins with a letter"),
         b'\x80'..=b'\xff' => Some("a source is ASCII, in comments and strings too"),
@@ -106,13 +108,13 @@ fn token_hint(fault: TokenFault, byte: u8) -> Option<&'static str>
         TokenFault::NoToken => byte_hint(byte),
         TokenFault::LargeNumber => Some("the least number is MOSTNEG INT"),
         TokenFault::HexadecimalDigits(0) => Some(
-            "there are no directives such as #USE; a program is one source",
+            "a hexadecimal number is written #1F; there are no directives such as #USE",
         ),
         TokenFault::Unspelled => Some(
             "the spellings are *c *n *t *s *' *\" ** and *# with two digits",
         ),
         TokenFault::NotOneCharacter => Some(
-            "a text of several characters is a table, as VAL [2]BYTE t IS \"ab\":",
+            "a text of several characters is a table, as VAL [2]BYTE t IS \"ab\":, and a line feed is '*n'",
         ),
         _ => None,
     }
@@ -124,7 +126,7 @@ fn hint(reason: LayoutReason, byte: u8) -> Option<&'static str>
 {
     match reason {
         LayoutReason::OddIndentation { .. } => Some(
-            "an expression does not go on on the next line",
+            "each level is two spaces more; a line does not go on on the next one",
         ),
         LayoutReason::TooDeep { .. } => Some(
             "a line is at most one level, of two spaces, below the line above it",

@@ -333,6 +333,7 @@ fn action_hint(found: Option<TokenKind<'_>>) -> Option<&'static str>
             "one variable is assigned at a time; write a SEQ",
         ),
         Some(TokenKind::Mark(Mark::Equal)) => Some("an assignment is written x := 1"),
+        None => Some("a process on one line is as x := 1, c ? x, c ! 1, or an instance p ()"),
         _ => None,
     }
 }
@@ -408,7 +409,7 @@ fn reason_hint(reason: ParseReason, found: Option<TokenKind<'_>>) -> Option<&'st
     match reason {
         ParseReason::Form { form, stuck } => lack_hint(form, stuck.lack, found),
         ParseReason::OnlyOne { .. } => Some(
-            "several processes are below a SEQ or a PAR, one level deeper",
+            "a replicator, a choice, a guard and a PROC have one process below; several are below a SEQ or a PAR, one level deeper",
         ),
         ParseReason::MissingColon => Some("a procedure ends with a line `:` at level 0"),
         ParseReason::MissingBody => Some(
