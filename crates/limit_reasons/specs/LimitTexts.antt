@@ -30,7 +30,8 @@ excess_text path excess line span =
 
 -- of a program whose source does not show which limit it is
 abbrev pub large_text : Text → Text
-large_text path = path ++ codes ": the code of this program would be too large, or take too long to write (G1)\n"
+large_text path =
+    path ++ codes ": the code, words or budget of this program would be too large, or it would take too long to write (G1)\n"
 
 abbrev pub text_at : Text → Excess → List Token → Option Sight → Text
 text_at path excess tokens None = large_text path

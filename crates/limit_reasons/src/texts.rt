@@ -57,7 +57,7 @@ fn large_text(alloc: Global, path: &str) -> Result<String, AllocError>
     ensures { IfOk result (λ text. string_bytes text ≡ large_text path.now) }
 {
     format!(in alloc;
-        "{path}: the code of this program would be too large, or take too long to write (G1)\n"
+        "{path}: the code, words or budget of this program would be too large, or it would take too long to write (G1)\n"
     )
 }
 
