@@ -1,6 +1,6 @@
 //! The explanation of the verdict on a module.
 
-ghost use Rattle.std.specs.Prelude.{◌≡◌, ◌<◌, ◌^◌, ◌++◌, [], IfOk, OnOk, MatchOption, Some};
+ghost use Rattle.std.specs.Prelude.{◌≡◌, ◌<◌, ◌^◌, ◌++◌, [], IfOk, MatchOption, Some};
 ghost use Rattle.std.specs.Prelude.{string_bytes, length, if◌then◌else◌};
 ghost use Rattle.module_format.specs.Keeping.{Keeps};
 ghost use Rattle.states.specs.declared.rule.Rule.TheVariants.{Spelling};
@@ -53,41 +53,6 @@ fn enter_unless<'a>(walk: &mut Walk<'a>, arrival: &Arrival<'a>, at_entry: bool)
     if !at_entry {
         walk.enter(arrival);
     }
-}
-
-/// Appends the instruction that breaks the rule, the state that breaks it, and why.
-fn push_last<'a>(
-    alloc: Global,
-    text: &mut String,
-    module: &Module,
-    walk: &mut Walk<'a>,
-    arrival: &Arrival<'a>,
-    setting: Setting,
-    rule: Rule,
-) -> Result<(), AllocError>
-    requires arrived { HasArrived arrival.now walk.old }
-    requires same { walked walk.old ≡ «module».now }
-    requires entered { arrival.now.entered ≡ entering «module».now arrival.now.at (before_of walk.old) }
-    ensures { let before = before_of walk.old in OnOk result (string_bytes text.new
-        ≡ string_bytes text.old ++ last_text «module».now arrival.now.at arrival.now.instr before setting rule) }
-{
-    let Arrival {
-        at,
-        instr,
-        entered,
-        ..
-    } = *arrival;
-    let at_entry = is_at_entry(entered, rule);
-    let broken = Broken {
-        at,
-        instr,
-        rule,
-        at_entry,
-    };
-    enter_unless(walk, arrival, at_entry);
-    push_sight(alloc, text, module, at, setting, walk.state())?;
-    push_breach(text, module, broken, walk.state())?;
-    Ok(())
 }
 
 /// What a walk comes to that tells what is known.
@@ -157,8 +122,23 @@ fn tell_last<'a>(
         ≡ string_bytes text.old ++ last_text «module».now arrival.now.at arrival.now.instr before setting rule)
         × (told ≡ All (refused rule arrival.now.at))) }
 {
-    push_last(alloc, text, module, walk, arrival, setting, rule)?;
-    Ok(Told::All(Err(broken(rule, arrival.at))))
+    let Arrival {
+        at,
+        instr,
+        entered,
+        ..
+    } = *arrival;
+    let at_entry = is_at_entry(entered, rule);
+    let last = Broken {
+        at,
+        instr,
+        rule,
+        at_entry,
+    };
+    enter_unless(walk, arrival, at_entry);
+    push_sight(alloc, text, module, at, setting, walk.state())?;
+    push_breach(text, module, last, walk.state())?;
+    Ok(Told::All(Err(broken(rule, at))))
 }
 
 /// Appends that a start lies within the instruction at an offset, if that is the rule that it breaks.
