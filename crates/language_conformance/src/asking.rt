@@ -1,5 +1,6 @@
 //! Runs the layers on a source, as statements ask.
 
+use crate::reasons::{ask_program, ask_reason};
 use crate::setting::Setting;
 use crate::tokens::write_lines;
 use crate::trees::write_items;
@@ -10,7 +11,7 @@ use std::alloc::Global;
 use usage_checks::check;
 
 /// Whether a text has these lines.
-fn has_lines(text: &str, block: &[&str]) -> bool {
+pub(crate) fn has_lines(text: &str, block: &[&str]) -> bool {
     let mut lines = block.iter();
     for found in text.lines() {
         match lines.next() {
@@ -93,6 +94,12 @@ impl Subject for Setting {
         }
         match statement.word {
             "lines" | "parse" | "check" => ask_source(self.alloc, &self.source, statement, out),
+            "reason" => ask_reason(self.alloc, &self.source, statement, out),
+            "limit" => ask_program(self.alloc, &self.source, statement, None, out),
+            "known" => match statement.rest.parse() {
+                Ok(last) => ask_program(self.alloc, &self.source, statement, Some(last), out),
+                Err(_) => Outcome::Unreadable,
+            },
             _ => Outcome::Unreadable,
         }
     }

@@ -1,4 +1,5 @@
-//! Checks what the layers of sources return against cases in text, and prints each case that differs.
+//! Checks what the layers of sources return, and what is written of sources, against cases in text, and prints each case
+//! that differs.
 //!
 //! The arguments name files of cases; without any, the cases are read from standard input. The last line has the
 //! counts. The status is 1 if a case differs or cannot be read. With the arguments `time CALL FILE
@@ -8,6 +9,7 @@
 
 mod asking;
 mod quoted;
+mod reasons;
 mod repeating;
 mod setting;
 mod tokens;

@@ -1,7 +1,7 @@
-//! What is written of a source, as statements ask.
+//! What is written of a source that is refused or known, as statements ask.
 
-use crate::setting::Setting;
-use conformance::{Answer, Outcome, Statement, Subject, judged, unindented};
+use crate::asking::has_lines;
+use conformance::{Answer, Outcome, Statement, judged};
 use known_lines::known_lines;
 use limit_reasons::{limit_excess, limit_text};
 use occam_layout::{Line, lines};
@@ -14,18 +14,6 @@ use usage_texts::usage_text;
 
 /// The path of each source.
 const PATH: &str = "a.occ";
-
-/// Whether a text has these lines.
-fn has_lines(text: &str, block: &[&str]) -> bool {
-    let mut lines = block.iter();
-    for found in text.lines() {
-        match lines.next() {
-            Some(line) if unindented(line) == found => {}
-            _ => return false,
-        }
-    }
-    lines.next().is_none()
-}
 
 /// Compares what is written with the lines below a statement, or with `none` on it.
 fn judge_text(text: Option<String>, statement: Statement, out: &mut Answer) -> Outcome {
@@ -96,7 +84,12 @@ fn text_of_lines(
 }
 
 /// What is written of a source.
-fn ask_reason(alloc: Global, source: &[u8], statement: Statement, out: &mut Answer) -> Outcome {
+pub(crate) fn ask_reason(
+    alloc: Global,
+    source: &[u8],
+    statement: Statement,
+    out: &mut Answer,
+) -> Outcome {
     let text = match lines(alloc, source) {
         Ok(lines) => text_of_lines(alloc, source, &lines),
         Err(fault) => layout_text(alloc, PATH, source, fault),
@@ -119,7 +112,7 @@ fn text_of_limit(
 }
 
 /// What is written of a source that is a program.
-fn ask_program(
+pub(crate) fn ask_program(
     alloc: Global,
     source: &[u8],
     statement: Statement,
@@ -139,26 +132,5 @@ fn ask_program(
     match text {
         Ok(text) => judge_text(Some(text), statement, out),
         Err(_) => Outcome::OutOfMemory,
-    }
-}
-
-impl Subject for Setting {
-    fn begin(alloc: Global) -> Self {
-        Setting::new(alloc)
-    }
-
-    fn perform(&mut self, statement: Statement, out: &mut Answer) -> Outcome {
-        if let Some(outcome) = self.take(statement) {
-            return outcome;
-        }
-        match statement.word {
-            "reason" => ask_reason(self.alloc, &self.source, statement, out),
-            "limit" => ask_program(self.alloc, &self.source, statement, None, out),
-            "known" => match statement.rest.parse() {
-                Ok(last) => ask_program(self.alloc, &self.source, statement, Some(last), out),
-                Err(_) => Outcome::Unreadable,
-            },
-            _ => Outcome::Unreadable,
-        }
     }
 }
