@@ -143,7 +143,9 @@ shape_hint f found = None
 abbrev pub action_hint : Option TokenKind → Option Text
 action_hint (Some (token.Mark mark.Comma)) = Some (codes "one variable is assigned at a time; write a SEQ")
 action_hint (Some (token.Mark mark.Equal)) = Some (codes "an assignment is written x := 1")
-action_hint None = Some (codes "a process on one line is as x := 1, c ? x, c ! 1, or an instance p ()")
+action_hint (Some (token.Name name)) = Some (codes "keywords are in capitals, as INT, SEQ and SKIP")
+action_hint None = Some (codes
+    "a process on one line is as x := 1, c ? x, c ! 1, or an instance p (); keywords are in capitals")
 action_hint found = None
 
 -- where a process is wanted
@@ -165,6 +167,7 @@ colon_hint f found = abbreviation_hint found
 abbrev pub wanted_hint : Form → Wanted → Option TokenKind → Option Text
 wanted_hint f (wanted.Mark mark.Colon) found = colon_hint f found
 wanted_hint f (wanted.Mark mark.Of) found = Some (codes "a channel is declared as CHAN OF BYTE c, without ? or !")
+wanted_hint f (wanted.Mark mark.Input) found = Some (codes "a guard is as c ? x, or x > 0 & c ? x, or x > 0 & SKIP")
 wanted_hint f wanted.Operand found = operand_hint found
 wanted_hint f wanted.ValueType found = Some (codes "types are written as in VAL INT n IS 3: and CHAN OF BYTE c:")
 wanted_hint f wanted.Shape found = shape_hint f found

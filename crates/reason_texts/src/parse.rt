@@ -333,7 +333,10 @@ fn action_hint(found: Option<TokenKind<'_>>) -> Option<&'static str>
             "one variable is assigned at a time; write a SEQ",
         ),
         Some(TokenKind::Mark(Mark::Equal)) => Some("an assignment is written x := 1"),
-        None => Some("a process on one line is as x := 1, c ? x, c ! 1, or an instance p ()"),
+        Some(TokenKind::Name(_)) => Some("keywords are in capitals, as INT, SEQ and SKIP"),
+        None => Some(
+            "a process on one line is as x := 1, c ? x, c ! 1, or an instance p (); keywords are in capitals",
+        ),
         _ => None,
     }
 }
@@ -379,6 +382,7 @@ fn wanted_hint(form: Form, wanted: Wanted, found: Option<TokenKind<'_>>) -> Opti
     match wanted {
         Wanted::Mark(Mark::Colon) => colon_hint(form, found),
         Wanted::Mark(Mark::Of) => Some("a channel is declared as CHAN OF BYTE c, without ? or !"),
+        Wanted::Mark(Mark::Input) => Some("a guard is as c ? x, or x > 0 & c ? x, or x > 0 & SKIP"),
         Wanted::Operand => operand_hint(found),
         Wanted::ValueType => Some("types are written as in VAL INT n IS 3: and CHAN OF BYTE c:"),
         Wanted::Shape => shape_hint(form, found),
