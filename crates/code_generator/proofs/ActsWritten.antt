@@ -1,21 +1,24 @@
 -- An action is written, and an instance around its procedure's body.
-use Rattle.std.proofs.Common.{◌≡◌, ℕ, List, ◌++◌, Option, sym, ap}
-use Rattle.std.proofs.Common.{subst, ◌∙◌}
+use Rattle.std.proofs.Common.{◌≡◌, ℕ, List, [], ◌++◌, Option, sym, ap}
+use Rattle.std.proofs.Common.{subst, ◌∙◌, arith}
 use Rattle.occam_parser.specs.Expressions.{Expression}
 use Rattle.occam_parser.specs.Lines.{Action, Instance}
-use Rattle.occam_parser.specs.Blocks.{Act}
+use Rattle.occam_parser.specs.Blocks.{Act, Process}
 use Rattle.scalar_ranges.specs.declared.scope.Scope as code_scope
 use Rattle.scalar_ranges.specs.Entries.{Meaning, meaning_in}
-use Rattle.scalar_ranges.specs.Moves.{Known}
-use Rattle.scalar_ranges.specs.Scopes.{known_of}
-use Rattle.program_uses.specs.Signatures.{parameters_in}
+use Rattle.scalar_ranges.specs.Moves.{Known, begun_with}
+use Rattle.scalar_ranges.specs.Scopes.{known_of, blocks_of}
+use Rattle.program_uses.specs.Actions.{Around}
+use Rattle.program_uses.specs.Signatures.{Parameter, parameters_in}
+use Rattle.usage_checks.specs.AfterProcesses.{inside}
 use Rattle.usage_checks.specs.Following.{after_action}
 use Rattle.usage_checks.specs.NameRules.{with_entries}
+use Rattle.usage_checks.proofs.RangesStay.{ranges_stay}
 use Rattle.code_pieces.specs.Pieces.{Piece, Code, closed_by}
 use Rattle.code_generator.specs.declared.calling.Call.{Call}
 use Rattle.code_generator.specs.declared.calling.Surroundings as calling
 use Rattle.code_generator.specs.declared.processes.ProcessWriter.{ProcessWriter}
-use Rattle.code_generator.specs.Calls.{callee_start, callee_code, in_callee}
+use Rattle.code_generator.specs.Calls.{Callee, callee_start, callee_code, in_callee}
 use Rattle.code_generator.specs.CallViews.{callee_of, surroundings_of}
 use Rattle.code_generator.specs.Instances.{cleaning_code}
 use Rattle.line_pieces.specs.FrameViews.{frame_seen}
@@ -57,6 +60,20 @@ writes_still {s} {code = code} x w = record {
 
 -- ---- an instance
 
+-- A process leaves no block around where none was.
+leaves_no_blocks : (a : Around) (p : Process) (k : Known) → k.blocks ≡ [] → (inside a p k).blocks ≡ []
+leaves_no_blocks a p k none =
+    let begun = ap begun_with none in (ranges_stay.processes a p k (omega (arith, begun))).blocks ∙ none
+
+-- so the body of an instance does
+pub instance_leaves : (c : Callee) (qs : List Parameter) (actuals : List Expression) (around : calling.Surroundings)
+    (p : Process) (s t begun body : ProcessWriter) → BeginsInstance s t begun c qs actuals
+    → WritesProcess begun body around p → blocks_of body.scope ≡ []
+instance_leaves c qs actuals around p s t begun body begins inner =
+    ap (λ (k : Known). k.blocks) inner.known
+    ∙ leaves_no_blocks (surroundings_of around).around p (known_of begun.scope)
+    (ap (λ (x : Site). x.known.blocks) begins.site)
+
 pub writes_instance : (around : calling.Surroundings) (name : List ℕ) (actuals : List Expression) (c : Call)
     (m : Option Meaning) (s t begun body w : ProcessWriter) → m ≡ meaning_in name (known_of s.scope).entries
     → IsCall (surroundings_of around) m c
@@ -70,20 +87,20 @@ writes_instance around name actuals c m s t begun body w is call begins inner en
     let callee = callee_of c.callee in
     let qs = parameters_in here.around.signatures m in
     let p = callee.procedure.body in
-    let inside = surroundings_of c.inside in
+    let within = surroundings_of c.inside in
     let clean : Site → List Piece =
     λ (y : Site). cleaning_code y.frame.homes y.known.entries y.frame.top qs 0 actuals in
     let same : site_of (record t { label = s.label }) ≡ z =
     λ i. record { frame = begins.frame i; known = begins.known i; label = s.label } in
-    let written : Appends begun.listing body.listing w.label (process_code inside p (in_callee callee qs actuals z)) =
-    subst (λ (x : Site × ℕ). Appends begun.listing body.listing x.1 (process_code inside p x.0))
+    let written : Appends begun.listing body.listing w.label (process_code within p (in_callee callee qs actuals z)) =
+    subst (λ (x : Site × ℕ). Appends begun.listing body.listing x.1 (process_code within p x.0))
     (λ i. (begins.site i, sym ends.label i)) inner.code in
     let rest : w.listing ≡ body.listing ++ clean z =
     ends.code ∙ ap (λ (y : Site). body.listing ++ clean y) same in
-    let all : Appends s.listing w.listing w.label (callee_code inside callee qs actuals z) =
-    appends_before (closed_by (clean z) (process_code inside p (in_callee callee qs actuals z))) s.listing begun.listing
+    let all : Appends s.listing w.listing w.label (callee_code within callee qs actuals z) =
+    appends_before (closed_by (clean z) (process_code within p (in_callee callee qs actuals z))) s.listing begun.listing
     w.listing (callee_start callee qs actuals z) w.label begins.code
-    (appends_closed (process_code inside p (in_callee callee qs actuals z)) begun.listing body.listing w.listing
+    (appends_closed (process_code within p (in_callee callee qs actuals z)) begun.listing body.listing w.listing
     (clean z) w.label written rest) in
     record {
       code = subst (Appends s.listing w.listing w.label)

@@ -45,3 +45,9 @@ pub next_outermost : (i : ℕ) (es before after : List Entry) (e : Option Entry)
     → e ≡ entry_at i es → after ≡ with_entry e before → after ≡ outermost (i + 1) es
 next_outermost i es before after e is found more =
     more ∙ (λ j. with_entry (found j) (is j)) ∙ sym (one_more i es)
+
+-- where two lists begin alike, and the next entry is the same
+pub both_outermost : (i : ℕ) (ds es : List Entry) → outermost i ds ≡ outermost i es → entry_at i ds ≡ entry_at i es
+    → outermost (i + 1) ds ≡ outermost (i + 1) es
+both_outermost i ds es same next =
+    one_more i ds ∙ (λ j. with_entry (next j) (same j)) ∙ sym (one_more i es)

@@ -9,6 +9,7 @@ mod context;
 mod guards;
 mod instances;
 mod laws;
+mod lending;
 mod limits;
 mod loops;
 mod marking;

@@ -18,9 +18,6 @@ pub(crate) const INSTANCE_DEPTH: u32 = 2;
 /// How many PARs a module may have.
 const GREATEST_PARS: u32 = 1_024;
 
-/// How many names the scopes that are open may have which procedures have from before them.
-const GREATEST_OPEN: u32 = 1_048_576;
-
 /// What bounds the code of a program. Of a sequential one what is gone over is bounded before (`program_work`), and
 /// while it is written only its rows are asked.
 #[derive(Clone, Copy)]
@@ -71,8 +68,6 @@ pub(crate) struct Spent {
     /// The entries of all rows, and what branches of PARs use.
     said: u32,
     pars: u32,
-    /// The names before those procedures whose bodies are around this place.
-    open: u32,
 }
 
 impl Spent {
@@ -83,18 +78,7 @@ impl Spent {
             rows: 0,
             said: 0,
             pars: 0,
-            open: 0,
         }
-    }
-
-    /// A body is gone over that has `names` names from before its procedure.
-    pub(crate) fn within(self, names: usize) -> Result<Spent, GenFault> {
-        let names = size_of_count(names)?;
-        Ok(Spent {
-            walked: plus(self.walked, names, GREATEST_SIZE)?,
-            open: plus(self.open, names, GREATEST_OPEN)?,
-            ..self
-        })
     }
 
     /// There is a `PAR` more.
@@ -107,14 +91,6 @@ impl Spent {
     pub(crate) fn count_notes(&mut self, notes: usize) -> Result<(), GenFault> {
         self.said = plus(self.said, size_of_count(notes)?, GREATEST_SAID as u32)?;
         Ok(())
-    }
-
-    /// After a body.
-    pub(crate) fn behind(self, body: Spent) -> Spent {
-        Spent {
-            open: self.open,
-            ..body
-        }
     }
 }
 

@@ -24,6 +24,7 @@ ghost use Rattle.code_generator.specs.Written.{IsTooMuch, Exceeds, declarations_
 use crate::calling::Surroundings;
 use crate::clearing::clear_names;
 use crate::context::Context;
+use crate::lending::Spare;
 use crate::limits::{Limits, Spent};
 use crate::loops::{Turning, value_or_zero};
 use crate::passing::Passed;
@@ -56,6 +57,10 @@ pub struct ProcessWriter<'a> {
     pub(crate) label: usize,
     pub(crate) listing: Listing,
     pub(crate) spent: Spent,
+    /// Scopes for instances.
+    pub(crate) spares: Vec<Spare<'a>>,
+    /// How many names from before a procedure the scope has had at most.
+    pub(crate) spelled: usize,
 }
 
 /// The first word that a process has for its names: those before it are for the selection of an alternation and the
@@ -80,6 +85,8 @@ impl<'a> ProcessWriter<'a> {
             label: 0,
             listing: Listing::new(alloc),
             spent: Spent::nothing(),
+            spares: Vec::new(alloc),
+            spelled: 0,
         }
     }
 

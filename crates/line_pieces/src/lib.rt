@@ -34,3 +34,4 @@ pub use noting::{Access, ChannelEnd, ChannelPlace, Notes, Way, row_word};
 pub use pieces::{GREATEST_ROWS, GREATEST_SAID};
 pub use setting::{Setting, word_after};
 pub use targets::{Target, target_of};
+pub use work::Lent;

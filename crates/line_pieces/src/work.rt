@@ -18,7 +18,16 @@ const GREATEST_WORK: u32 = 400_000_000;
 /// For each unit of the size of an expression, at each level of brackets that is around it.
 const READING_STEPS: u32 = 16;
 
-/// For a name that is declared again in a scope of its own.
+/// For a name from before a procedure, at each instance.
+const LENDING_STEPS: u32 = 8;
+
+/// How many bytes of such names a step is for, where they are compared with those of the instance before.
+const LETTERS_A_STEP: usize = 16;
+
+/// For such a name that the instance before did not have.
+const AGAIN_STEPS: u32 = 32;
+
+/// For such a name whose spelling is new to a scope.
 const NAME_STEPS: u32 = 256;
 
 /// For each byte of such a name.
@@ -42,6 +51,18 @@ const PROCESS_STEPS: u32 = 40;
 /// For each unit of the size of such a body.
 const FINDING_STEPS: u32 = 16;
 
+/// The names from before a procedure that an instance of it has.
+#[derive(Clone, Copy)]
+pub struct Lent {
+    /// How many there are.
+    pub count: usize,
+    /// How many of the first ones the instance before had too, and the bytes of these.
+    pub kept: usize,
+    pub letters: usize,
+    /// How many of the first ones are spelled as names that its scope has had.
+    pub spelled: usize,
+}
+
 /// What was done beside writing so far.
 #[derive(Clone, Copy)]
 pub(crate) struct Work {
@@ -61,9 +82,18 @@ impl Work {
         Ok(())
     }
 
-    /// The first `count` names are declared again.
-    fn declare(&mut self, scope: &Scope, count: usize) -> Result<(), GenFault> {
-        for number in 0..count {
+    /// The outermost names of a scope are lent to an instance.
+    fn lend(&mut self, scope: &Scope, names: Lent) -> Result<(), GenFault> {
+        let again = names.spelled.min(names.count).saturating_sub(names.kept);
+        self.count(size_of_count(names.count)?, LENDING_STEPS)?;
+        self.count(size_of_count(names.letters / LETTERS_A_STEP)?, 1)?;
+        self.count(size_of_count(again)?, AGAIN_STEPS)?;
+        self.spell(scope, names.kept.max(names.spelled), names.count)
+    }
+
+    /// The names with numbers from one up to another, which is left out, are declared in a scope that has not had them.
+    fn spell(&mut self, scope: &Scope, from: usize, to: usize) -> Result<(), GenFault> {
+        for number in from..to {
             if let Some(entry) = scope.entry(number) {
                 self.count(1, NAME_STEPS)?;
                 self.count(size_of_count(entry.name.len())?, LETTER_STEPS)?;
@@ -166,11 +196,11 @@ impl Listing {
         self.work.count(units, READING_STEPS)
     }
 
-    /// The first `count` names are declared again.
-    pub fn declare_again(&mut self, scope: &Scope, count: usize) -> Result<(), GenFault>
+    /// The outermost names of a scope are lent to an instance.
+    pub fn lend(&mut self, scope: &Scope, names: Lent) -> Result<(), GenFault>
         ensures { IfOk result (λ _. self.new ≡ self.old) }
     {
-        self.work.declare(scope, count)
+        self.work.lend(scope, names)
     }
 
     /// `actuals` actuals are passed.
