@@ -94,6 +94,13 @@ def calls_behind_names(constants, times):
     return program(*known, procedure("last()", ["SKIP"]), main(["SEQ", *deeper(["last()"] * times)]))
 
 
+def calls_in_turns(constants, times):
+    """Two procedures that are called in turns, one with so many names before it, the other one with none."""
+    known = [[f"VAL INT {name} IS 1:"] for name in names(constants)]
+    first, last = procedure("first()", ["SKIP"]), procedure("last()", ["SKIP"])
+    return program(first, *known, last, main(["SEQ", *deeper(["first()", "last()"] * (times // 2))]))
+
+
 def calls_behind_long_names(constants, length, times):
     """A procedure that is called so often, with names before it that are alike in so many signs."""
     front = "a" * length
@@ -107,6 +114,14 @@ def calls_within(depth, variables):
     chained = [procedure(f"P{n}()", [f"P{n - 1}()" if n else "SKIP"]) for n in range(depth)]
     other = deeper([f"{name} := 1" for name in declared[::2]])
     return program(*chained, main([f"INT {joined(declared)}:", "SEQ", *other, f"  P{depth - 1}()"]))
+
+
+def lines_with_instances(procedures):
+    """Ten lines for each of so many procedures: three of its own, two that call it, and five others."""
+    known = [procedure(f"step{number}(INT a)", ["a := a /\\ 255"]) for number in range(procedures)]
+    instances = [f"step{number}(x)" for number in range(procedures)] * 2
+    others = ["y := x PLUS 1", "x := y /\\ 7"] * (procedures * 5 // 2)
+    return program(*known, main(["INT x, y:", "SEQ", "  in0 ? x", *deeper([*instances, *others])]))
 
 
 # ---- rows
@@ -293,7 +308,17 @@ SOURCES = {
         "140 instances that pass 4,000 variables, where 10,000 others have words",
     ),
     "calls-names": (
-        lambda: calls_behind_names(32_000, 250), TOO_LARGE, "250 instances of a procedure that knows 32,000 constants",
+        lambda: calls_behind_names(32_000, 700), COMPILED, "700 instances of a procedure that knows 32,000 constants",
+    ),
+    "calls-in-turns": (
+        lambda: calls_in_turns(4_000, 2_300), COMPILED,
+        "2,300 instances in turns, every second one of a procedure that knows 4,000 constants",
+    ),
+    "instances-10000": (
+        lambda: lines_with_instances(1_000), COMPILED, "10,000 lines with 1,000 procedures, each called twice",
+    ),
+    "instances-20000": (
+        lambda: lines_with_instances(2_000), COMPILED, "20,000 lines with 2,000 procedures, each called twice",
     ),
     "calls-long": (
         lambda: calls_behind_long_names(80, 10_000, 8_000), TOO_LARGE,
