@@ -2,6 +2,7 @@
 
 ghost use Rattle.std.specs.Prelude.{◌≡◌, ◌++◌, IfOk, option_map, option_to_list};
 ghost use Rattle.word_arithmetic.specs.Range.{ends_of};
+ghost use Rattle.scalar_ranges.specs.Entries.{entry_at};
 ghost use Rattle.scalar_ranges.specs.Scopes.{entries_of, entry_of, meaning_of};
 ghost use Rattle.line_pieces.specs.HomeViews.{home_seen, homes_seen};
 ghost use Rattle.line_pieces.specs.Homes.{count_in, is_in, facts_at, facts_here, facts_of};
@@ -81,6 +82,17 @@ fn fact_here(home: &Home, declared: Option<Entry>) -> Option<RowEntry>
     }
 }
 
+/// What a scope knows of the words of the name with this number, whose home this is. A name without words is not looked
+/// up.
+fn fact_of(scope: &Scope, number: usize, home: &Home) -> Option<RowEntry>
+    ensures { option_to_list result ≡ facts_here (home_seen home.now) (entry_at number (entries_of scope.now)) }
+{
+    match home {
+        Home::Word(_) | Home::Block { .. } => fact_here(home, scope.entry(number)),
+        Home::Nowhere | Home::Link(_) | Home::Table(_) | Home::Passed(_) => None,
+    }
+}
+
 /// One entry more, if there is one.
 pub(crate) fn push_any<T: Drop>(entries: &mut Vec<T>, entry: Option<T>) -> Result<(), AllocError>
     ensures { IfOk result (λ _. entries.new.items ≡ entries.old.items ++ option_to_list entry) }
@@ -107,8 +119,7 @@ fn facts_of(alloc: Global, scope: &Scope, homes: &[Home]) -> Result<Vec<RowEntry
 {
     let mut entries = Vec::new(alloc);
     for (number, home) in homes.iter().enumerate() {
-        let entry = fact_here(home, scope.entry(number));
-        push_any(&mut entries, entry)?;
+        push_any(&mut entries, fact_of(scope, number, home))?;
     }
     Ok(entries)
 }
