@@ -117,11 +117,11 @@ def calls_within(depth, variables):
 
 
 def lines_with_instances(procedures):
-    """Ten lines for each of so many procedures: three of its own, two that call it, and five others."""
-    known = [procedure(f"step{number}(INT a)", ["a := a /\\ 255"]) for number in range(procedures)]
-    instances = [f"step{number}(x)" for number in range(procedures)] * 2
-    others = ["y := x PLUS 1", "x := y /\\ 7"] * (procedures * 5 // 2)
-    return program(*known, main(["INT x, y:", "SEQ", "  in0 ? x", *deeper([*instances, *others])]))
+    """Ten lines for each of so many procedures: seven of its own, one that calls it, and two others."""
+    body = ["VAL INT low IS 3:", "VAL INT mask IS 7:", "SEQ", "  a := a /\\ mask", "  a := a \\/ low"]
+    known = [procedure(f"step{number}(INT a)", body) for number in range(procedures)]
+    uses = [[f"step{number}(x)", "y := x PLUS 1", "x := y /\\ 7"] for number in range(procedures)]
+    return program(*known, main(["INT x, y:", "SEQ", "  in0 ? x", *deeper(sum(uses, []))]))
 
 
 # ---- rows
@@ -315,10 +315,10 @@ SOURCES = {
         "2,300 instances in turns, every second one of a procedure that knows 4,000 constants",
     ),
     "instances-10000": (
-        lambda: lines_with_instances(1_000), COMPILED, "10,000 lines with 1,000 procedures, each called twice",
+        lambda: lines_with_instances(1_000), COMPILED, "10,000 lines with 1,000 procedures, each called once",
     ),
     "instances-20000": (
-        lambda: lines_with_instances(2_000), COMPILED, "20,000 lines with 2,000 procedures, each called twice",
+        lambda: lines_with_instances(2_000), COMPILED, "20,000 lines with 2,000 procedures, each called once",
     ),
     "calls-long": (
         lambda: calls_behind_long_names(80, 10_000, 8_000), TOO_LARGE,
