@@ -28,7 +28,7 @@ use Rattle.code_pieces.proofs.Faults.{handed_on}
 use Rattle.code_generator.specs.declared.limits.Limits.{Limits}
 use Rattle.code_generator.specs.declared.loops.Turning.{Turning}
 use Rattle.code_generator.specs.Alternations.{exits_in, WritesBranch, WritesSome, FollowsAlt}
-use Rattle.code_generator.specs.CallViews.{surroundings_of}
+use Rattle.code_generator.specs.CallViews.{callee_of, surroundings_of}
 use Rattle.line_pieces.specs.FrameViews.{frame_seen}
 use Rattle.line_pieces.specs.Homes.{Nowhere}
 use Rattle.line_pieces.specs.Declarations.{with_home}
@@ -39,7 +39,7 @@ use Rattle.code_generator.specs.Written.{site_of, Writes, WritesConstruct, Write
 use Rattle.code_generator.specs.Written.{choices_in}
 use Rattle.code_generator.specs.Written.{Exceeds, entering_code, choice_as, WritesAs, if_at, WritesIf, before_turns}
 use Rattle.code_generator.specs.Written.{ending_at, WritesEnding, WritesSomeTurns, turns_at, WritesTurns}
-use Rattle.code_generator.proofs.ActsWritten.{writes_act, writes_from, writes_still, writes_instance}
+use Rattle.code_generator.proofs.ActsWritten.{writes_act, writes_from, writes_still, writes_instance, instance_leaves}
 use Rattle.code_generator.proofs.Exceeding.{exceeds_from, spent_place}
 use Rattle.code_generator.proofs.PartsExceed.{exceeds_declaring, exceeds_process, exceeds_seq}
 use Rattle.code_generator.proofs.PartsExceed.{exceeds_taken, exceeds_tested, exceeds_other, exceeds_open}
@@ -128,6 +128,12 @@ write_line-returns-in-Instance-clause-ok t c =
     ap (λ xs. Instance name (map expression_of xs)) c.deref.ensures.value ∙ ap action_of (sym c.in-Instance.is) in
     subst (λ x. IfOk c.write_instance.result (λ _. WritesLine s c.write_instance.new.self c.args.around x)) is
     c.write_instance.ensures.ok
+
+pub write_instance-end_instance-requires : goal.write_instance-end_instance-requires
+write_instance-end_instance-requires t c =
+    let call = c.in_ok-call.call in
+    instance_leaves (callee_of call.callee) _ _ call.inside (callee_of call.callee).procedure.body c.args.self.now
+    c.begin_instance.new.self c.in_ok-body.body c.write.new.self c.in_ok-body.ensures c.in_ok-write.ensures.ok
 
 pub write_instance-returns-clause-ok : goal.write_instance-returns-clause-ok
 write_instance-returns-clause-ok t c =
