@@ -120,8 +120,8 @@ def lines_with_instances(procedures):
     """Ten lines for each of so many procedures: seven of its own, one that calls it, and two others."""
     body = ["VAL INT low IS 3:", "VAL INT mask IS 7:", "SEQ", "  a := a /\\ mask", "  a := a \\/ low"]
     known = [procedure(f"step{number}(INT a)", body) for number in range(procedures)]
-    uses = [[f"step{number}(x)", "y := x PLUS 1", "x := y /\\ 7"] for number in range(procedures)]
-    return program(*known, main(["INT x, y:", "SEQ", "  in0 ? x", *deeper(sum(uses, []))]))
+    uses = [line for number in range(procedures) for line in (f"step{number}(x)", "y := x PLUS 1", "x := y /\\ 7")]
+    return program(*known, main(["INT x, y:", "SEQ", "  in0 ? x", *deeper(uses)]))
 
 
 # ---- rows
