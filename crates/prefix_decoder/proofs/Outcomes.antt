@@ -2,10 +2,11 @@
 use Rattle.std.proofs.Common.{◌≡◌, ◌↔◌, ◌⊎◌, ℕ, zero, suc, ◌+◌, ◌<◌, ◌≤◌, Bool, true, false, cond, eqb, List, [], ◌∷◌}
 use Rattle.std.proofs.Common.{◌++◌, length, get_or, take, drop, Option, Some, None, Result, Ok, Err, ℤ, pos, FitsSigned}
 use Rattle.std.proofs.Common.{w32, refl, ap, arith, inl, inr, sym, subst, ◌∙◌, append_assoc, length-append, length-drop}
-use Rattle.std.proofs.Common.{length-take}
+use Rattle.std.proofs.Common.{length-take, rules}
 use Rattle.std.specs.Prelude.{All, IfOk}
 use Rattle.std.specs.Str.{bytes_eq}
 use Rattle.std.proofs.lemmas.Bool.{eqb-false, false_from_ne_true}
+use Rattle.std.proofs.lemmas.Int.{ints}
 use Rattle.std.proofs.lemmas.List.{take_at, get_or-drop}
 use Rattle.std.proofs.lemmas.List.Elements.{All-nil, All-cons, All-head, All-tail, All-same}
 use Rattle.std.proofs.lemmas.Slice.Eq.{bytes_eq-Decides}
@@ -17,9 +18,9 @@ use Rattle.prefix_decoder.specs.declared.function.Fun.TheVariants.{StoreLocal, S
 use Rattle.prefix_decoder.specs.declared.decoding.Instr.{Instr}
 use Rattle.prefix_decoder.specs.declared.decoding.DecodeFault.{DecodeFault}
 use Rattle.prefix_decoder.specs.declared.decoding.DecodeFault.TheVariants.{EndOfCode, SecondSpelling, TooLong}
-use Rattle.prefix_decoder.specs.Functions.{pfix, nfix, fun_of, function_code, nibble, IsPrefix}
+use Rattle.prefix_decoder.specs.Functions.{pfix, nfix, code_of, fun_of, function_code, nibble, IsPrefix}
 use Rattle.prefix_decoder.specs.Operand.{IsRegister, with_nibble, after_prefix}
-use Rattle.prefix_decoder.specs.Spelling.{IsSpelling, spelling}
+use Rattle.prefix_decoder.specs.Spelling.{byte_of, Spells, alone, IsSpelling, spelling}
 use Rattle.prefix_decoder.specs.Fetching.{ended_or, read, if_spelled_once, fetched, EndsTooSoon, IsTooLong}
 use Rattle.prefix_decoder.specs.Fetching.{IsSecondSpelling}
 use Rattle.prefix_decoder.specs.Fetching.{StandsAt}
@@ -41,36 +42,42 @@ IsPrefixCode code = (code ≡ pfix) ⊎ (code ≡ nfix)
 
 data Kind (code : ℕ) : Option Fun → Type 0 where
   prefix : IsPrefixCode code → Kind code None
-  function : (f : Fun) → ¬ IsPrefixCode code → Kind code (Some f)
+  function : (f : Fun) → code_of f ≡ code → ¬ IsPrefixCode code → Kind code (Some f)
 
 other : (code : ℕ) → eqb code pfix ≡ false → eqb code nfix ≡ false → ¬ IsPrefixCode code
 other code p n (inl is) = eqb-false code pfix p is
 other code p n (inr is) = eqb-false code nfix n is
 
 kind : (code : ℕ) → code < 16 → Kind code (fun_of code)
-kind zero h = function Jump (other 0 refl refl)
-kind (suc zero) h = function LoadLocalPointer (other 1 refl refl)
+kind zero h = function Jump refl (other 0 refl refl)
+kind (suc zero) h = function LoadLocalPointer refl (other 1 refl refl)
 kind (suc (suc zero)) h = prefix (inl refl)
-kind (suc (suc (suc zero))) h = function LoadNonLocal (other 3 refl refl)
-kind (suc (suc (suc (suc zero)))) h = function LoadConstant (other 4 refl refl)
-kind (suc (suc (suc (suc (suc zero))))) h = function LoadNonLocalPointer (other 5 refl refl)
+kind (suc (suc (suc zero))) h = function LoadNonLocal refl (other 3 refl refl)
+kind (suc (suc (suc (suc zero)))) h = function LoadConstant refl (other 4 refl refl)
+kind (suc (suc (suc (suc (suc zero))))) h = function LoadNonLocalPointer refl (other 5 refl refl)
 kind (suc (suc (suc (suc (suc (suc zero)))))) h = prefix (inr refl)
-kind (suc (suc (suc (suc (suc (suc (suc zero))))))) h = function LoadLocal (other 7 refl refl)
-kind (suc (suc (suc (suc (suc (suc (suc (suc zero)))))))) h = function AddConstant (other 8 refl refl)
-kind (suc (suc (suc (suc (suc (suc (suc (suc (suc zero))))))))) h = function Call (other 9 refl refl)
-kind (suc (suc (suc (suc (suc (suc (suc (suc (suc (suc zero)))))))))) h = function ConditionalJump (other 10 refl refl)
+kind (suc (suc (suc (suc (suc (suc (suc zero))))))) h = function LoadLocal refl (other 7 refl refl)
+kind (suc (suc (suc (suc (suc (suc (suc (suc zero)))))))) h = function AddConstant refl (other 8 refl refl)
+kind (suc (suc (suc (suc (suc (suc (suc (suc (suc zero))))))))) h = function Call refl (other 9 refl refl)
+kind (suc (suc (suc (suc (suc (suc (suc (suc (suc (suc zero)))))))))) h = function ConditionalJump refl (other 10 refl refl)
 kind (suc (suc (suc (suc (suc (suc (suc (suc (suc (suc (suc zero))))))))))) h =
-    function AdjustWorkspace (other 11 refl refl)
+    function AdjustWorkspace refl (other 11 refl refl)
 kind (suc (suc (suc (suc (suc (suc (suc (suc (suc (suc (suc (suc zero)))))))))))) h =
-    function EqualsConstant (other 12 refl refl)
+    function EqualsConstant refl (other 12 refl refl)
 kind (suc (suc (suc (suc (suc (suc (suc (suc (suc (suc (suc (suc (suc zero))))))))))))) h =
-    function StoreLocal (other 13 refl refl)
+    function StoreLocal refl (other 13 refl refl)
 kind (suc (suc (suc (suc (suc (suc (suc (suc (suc (suc (suc (suc (suc (suc zero)))))))))))))) h =
-    function StoreNonLocal (other 14 refl refl)
+    function StoreNonLocal refl (other 14 refl refl)
 kind (suc (suc (suc (suc (suc (suc (suc (suc (suc (suc (suc (suc (suc (suc (suc zero))))))))))))))) h =
-    function Operate (other 15 refl refl)
+    function Operate refl (other 15 refl refl)
 kind (suc (suc (suc (suc (suc (suc (suc (suc (suc (suc (suc (suc (suc (suc (suc (suc code)))))))))))))))) h =
     absurd (omega arith)
+
+kind_code : {code : ℕ} {o : Option Fun} → Kind code o → (f : Fun) → o ≡ Some f → code_of f ≡ code
+kind_code (prefix is-prefix) f is = absurd cc
+kind_code (function g code-is not) f is =
+    let same : g ≡ f = cc in
+    rw (← same) code-is
 
 -- ---- the outcome of reading
 
@@ -105,7 +112,7 @@ stepped : (fuel byte taken : ℕ) (bytes : List ℕ) (e : ℤ) (o : Option Fun) 
     → Outcome fuel bytes (taken + 1) r
     → Outcome (suc fuel) (byte ∷ bytes) taken (ended_or o e (taken + 1) r)
 stepped fuel byte taken bytes e o r fits (prefix p) out = one_more fuel byte taken bytes r p out
-stepped fuel byte taken bytes e o r fits (function f not) out =
+stepped fuel byte taken bytes e o r fits (function f code-is not) out =
     found [] byte bytes f e (taken + 1) refl (omega arith) (All-nil IsPrefix) not fits (omega arith)
 
 outcome : (fuel : ℕ) (bytes : List ℕ) (register : ℤ) (taken : ℕ)
@@ -310,6 +317,21 @@ pub fetched-only : (code : List ℕ) (at : ℕ) (f : Fun) (e : ℤ) (bytes rest 
     → drop at code ≡ bytes ++ rest
     → fetched code at ≡ Ok (record { fun = f; operand = e; len = length bytes })
 fetched-only code at f e bytes rest s parts = checked-spelling f e bytes rest (drop at code) s parts
+
+-- a byte that is no prefix is an instruction
+pub fetched-single : (code : List ℕ) (at byte : ℕ) (rest : List ℕ) (f : Fun)
+    → byte < 256
+    → drop at code ≡ byte ∷ rest
+    → fun_of (function_code byte) ≡ Some f
+    → fetched code at ≡ Ok (record { fun = f; operand = with_nibble (pos 0) (nibble byte); len = 1 })
+fetched-single code at byte rest f small parts is =
+    let e = pos (nibble byte) in
+    let code-is : code_of f ≡ function_code byte = kind_code (kind (function_code byte) (omega arith)) f is in
+    let byte-is : byte_of (code_of f) e ≡ byte = rw code-is (omega arith) in
+    let spells : Spells (code_of f) e (byte ∷ []) =
+    subst (λ (b : ℕ). Spells (code_of f) e (b ∷ [])) byte-is (alone (omega (arith, ints)) (omega (arith, ints))) in
+    let sum : 0 + nibble byte ≡ nibble byte = omega arith in
+    rw sum (fetched-only code at f e (byte ∷ []) rest (record { fits = search rules; spells = spells }) parts)
 
 -- an instruction takes 1 to 8 bytes
 pub StandsAt-length : (code : List ℕ) (at : ℕ) (i : Instr) → StandsAt code at i → (1 ≤ i.len) × (i.len ≤ 8)

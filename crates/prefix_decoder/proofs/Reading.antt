@@ -8,7 +8,7 @@ use Rattle.prefix_decoder.specs.declared.function.Fun.TheVariants.{ConditionalJu
 use Rattle.prefix_decoder.specs.declared.function.Fun.TheVariants.{StoreLocal, StoreNonLocal, Operate}
 use Rattle.prefix_decoder.specs.declared.decoding.Instr.{Instr}
 use Rattle.prefix_decoder.specs.declared.decoding.DecodeFault.{DecodeFault}
-use Rattle.prefix_decoder.specs.Functions.{pfix, nfix, code_of, fun_of, function_code, nibble}
+use Rattle.prefix_decoder.specs.Functions.{code_of, fun_of, function_code, nibble}
 use Rattle.prefix_decoder.specs.Operand.{low_nibble, without_low_nibble, complement, with_nibble, prefixed, negated}
 use Rattle.prefix_decoder.specs.Operand.{after_prefix}
 use Rattle.prefix_decoder.specs.Spelling.{byte_of, Spells, alone, above, below, IsSpelling}

@@ -1,4 +1,4 @@
-ghost use Rattle.std.specs.Prelude.{◌≡◌, ◌≤◌, ◌↔◌, ◌++◌, ℕ, ℤ, pos, List, length, drop, IfOk, Ok, Err};
+ghost use Rattle.std.specs.Prelude.{◌≡◌, ◌≤◌, ◌↔◌, ◌++◌, ℕ, ℤ, pos, List, length, drop, IfOk, IfSome, Ok, Err};
 ghost use Rattle.prefix_decoder.specs.declared.function.Fun.{Fun};
 ghost use Rattle.prefix_decoder.specs.Spelling.{IsSpelling};
 ghost use Rattle.prefix_decoder.specs.Fetching.{read, fetched, StandsAt, EndsTooSoon, IsSecondSpelling, IsTooLong};
@@ -53,10 +53,30 @@ fn decode(bytes: &[u8]) -> Result<Instr, DecodeFault>
     Err(DecodeFault::TooLong)
 }
 
+/// The instruction of one byte at a place of the code, if a byte that is no prefix is there.
+#[inline(always)]
+fn single(code: &[u8], at: usize) -> Option<Instr>
+    ensures { IfSome result (λ instr. fetched code.now at ≡ Ok instr) }
+{
+    if at >= code.len() {
+        return None;
+    }
+    let byte = code[at];
+    let fun = Fun::from_code(byte >> 4)?;
+    Some(Instr {
+        fun,
+        operand: with_nibble(0, byte),
+        len: 1,
+    })
+}
+
 /// What is read at a place of the code, if it is in its one spelling.
 fn instruction_at(code: &[u8], at: usize) -> Result<Instr, DecodeFault>
     ensures { result ≡ fetched code.now at }
 {
+    if let Some(instr) = single(code, at) {
+        return Ok(instr);
+    }
     let bytes = &code[at.min(code.len())..];
     let instr = decode(bytes)?;
     if &bytes[..instr.len] != encode(instr.fun, instr.operand).as_slice() {
