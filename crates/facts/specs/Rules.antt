@@ -86,8 +86,13 @@ abbrev pub way_of_known : Instruction → Way
 way_of_known (Operate op) = way_of_operation op
 way_of_known i = GoesOn
 
+-- so it is of what is an instruction or none
+abbrev pub way_of_decoded : Option Instruction → Way
+way_of_decoded None = GoesOn
+way_of_decoded (Some instruction) = way_of_known instruction
+
 unfoldable pub way_of : Instr → Way
-way_of i = elim (instruction_of i.fun i.operand) [ None ↦ GoesOn | Some instruction ↦ way_of_known instruction ]
+way_of i = way_of_decoded (instruction_of i.fun i.operand)
 
 -- ---- instructions of PARs
 

@@ -1,6 +1,7 @@
 //! The rule of an instruction, on a state in place.
 
 ghost use Rattle.std.specs.Prelude.{◌≡◌, true, false, OnOk};
+ghost use Rattle.machine_state.specs.Instructions.{instruction_of};
 ghost use Rattle.states.specs.Views.{state_of, BelongsTo};
 ghost use Rattle.states.specs.Room.{HasRoomForGuards};
 ghost use Rattle.rulings.specs.Places.{site_of};
@@ -63,14 +64,17 @@ pub fn reserve_guards(state: &mut State) -> Result<(), AllocError>
 
 /// Takes a state over the instruction at a code offset, by the rule of that instruction, and reports how a process goes
 /// on there: a jump leads to the label at its code offset. If the rule is broken, the state is left part of the way.
-/// The end of an alternation has `leave`, and the start of a branch `start`.
+/// `instruction` is what `Instruction::of` says, so that it is asked once. The end of an alternation has `leave`, and the
+/// start of a branch `start`.
 #[tactic(auto, unfolding(crate::specs::Rules::rule, crate::specs::Rules::rule_of, crate::specs::Rules::instruction_rule, crate::specs::Rules::operation_rule, crate::specs::Rules::way_of, local_rules::specs::LocalRules::local_rule))]
 pub fn advance(
     state: &mut State,
     module: &Module,
     at: usize,
     instr: Instr,
+    instruction: Option<Instruction>,
 ) -> Result<Continuation, Rule>
+    requires decoded { instruction ≡ instruction_of instr.fun instr.operand }
     requires belongs { BelongsTo «module».now state.old }
     requires room { HasRoomForGuards state.old }
     requires goes_on { way_of instr ≡ GoesOn }
@@ -78,7 +82,7 @@ pub fn advance(
     ensures belongs { BelongsTo «module».now state.new }
 {
     let place = place_of(module, at, instr);
-    let instruction = Instruction::of(instr.fun, instr.operand).ok_or(Rule::Spelling)?;
+    let instruction = instruction.ok_or(Rule::Spelling)?;
     match instruction {
         Instruction::Call => call(&place, state, instr.operand),
         Instruction::Operate(Op::Return) => return_to_caller(&place, state),

@@ -15,6 +15,7 @@ use crate::advancing::{advance, leave, start};
 use crate::way::{Way, way_of};
 use alternation_rules::exit_at;
 use certificate::Module;
+use machine_state::Instruction;
 use par_rules::Started;
 use prefix_decoder::Instr;
 use rulings::{Continuation, Place};
@@ -195,7 +196,8 @@ fn go_on<'a>(
     ensures belongs { IfOk result (Follow «module».now) }
 {
     let mut state = state.copy(alloc)?;
-    let continuation = advance(&mut state, module, at, instr)?;
+    let instruction = Instruction::of(instr.fun, instr.operand);
+    let continuation = advance(&mut state, module, at, instr, instruction)?;
     let next = offset_behind(at, instr.len);
     match continuation {
         Continuation::Falls | Continuation::Calls { .. } => Ok(Successors {
@@ -221,6 +223,7 @@ fn go_on<'a>(
 /// offset. Running out of memory is reported as `states::MEMORY`.
 // A body that always reports an allocation failure meets these clauses too, since no clause can say that memory is
 // left: tests show the states that follow.
+#[tactic(auto, unfolding(crate::specs::Rules::way_of))]
 pub fn transfer<'a>(
     alloc: Global,
     module: &'a Module<'a>,
@@ -233,7 +236,7 @@ pub fn transfer<'a>(
         Succeeds «module».now (offset_behind at instr.len) result ruling }
     ensures belongs { IfOk result (Follow «module».now) }
 {
-    match way_of(instr) {
+    match way_of(Instruction::of(instr.fun, instr.operand)) {
         Way::GoesOn => go_on(alloc, module, state, at, instr),
         Way::EndsAlternation => leave_alternation(alloc, module, state, at, instr),
         Way::StartsBranch => start_branch(alloc, module, state, at, instr),

@@ -1,10 +1,9 @@
 //! How a process goes on after an instruction.
 
 ghost use Rattle.std.specs.Prelude.{◌≡◌};
-ghost use Rattle.facts.specs.Rules.{way_of};
+ghost use Rattle.facts.specs.Rules.{way_of_decoded};
 
 use machine_state::{Instruction, Op};
-use prefix_decoder::Instr;
 
 /// How a process goes on after an instruction, as far as a caller has to know before the instruction is judged.
 #[derive(Clone, Copy)]
@@ -17,12 +16,11 @@ pub enum Way {
     StartsBranch,
 }
 
-/// The way of an instruction.
-#[tactic(auto, unfolding(crate::specs::Rules::way_of))]
-pub fn way_of(instr: Instr) -> Way
-    ensures { result ≡ way_of instr }
+/// The way of an instruction. What is none goes on, and breaks a rule then.
+pub fn way_of(instruction: Option<Instruction>) -> Way
+    ensures { result ≡ way_of_decoded instruction }
 {
-    match Instruction::of(instr.fun, instr.operand) {
+    match instruction {
         Some(Instruction::Operate(Op::AlternationEnd)) => Way::EndsAlternation,
         Some(Instruction::Operate(Op::StartProcess)) => Way::StartsBranch,
         _ => Way::GoesOn,

@@ -8,7 +8,7 @@ use Rattle.std.proofs.lemmas.Bool.{and_parts, and_from}
 use Rattle.small_laws.proofs.Comparisons.{le-int_le, int_le-true}
 use Rattle.module_format.specs.Rows.{Fact, Entry}
 use Rattle.module_format.specs.Regions.{is_same_region}
-use Rattle.module_format.specs.Contents.{Contents, Label, label_at}
+use Rattle.module_format.specs.Contents.{Contents, Label}
 use Rattle.module_format.specs.declared.fact.Fact.TheVariants.{Unknown, Number, Pointer, CodeAddress, Loop}
 use Rattle.module_format.specs.declared.fact.Fact.TheVariants.{ReturnAddress}
 use Rattle.module_format.specs.declared.fact.Region.{Region}
@@ -24,7 +24,7 @@ use Rattle.states.specs.State.{Facts, by_itself, is_alone, entry_fact}
 use Rattle.states.specs.Below.{says, implies, step_implies}
 use Rattle.states.specs.Blocks.{block_words, first_of}
 use Rattle.states.specs.Comparing.{BlockSaysAll, loop_of, IsPast}
-use Rattle.states.specs.Remembered.{time_of, index_time, word_time, wants_no_loop}
+use Rattle.states.specs.Remembered.{numbered_label, time_of, index_time, word_time, wants_no_loop}
 use Rattle.states.proofs.Hulls.{unknown-implied, implies-narrower, plain-said}
 use Rattle.states.proofs.BlockSums.{number-of}
 
@@ -56,23 +56,23 @@ none-claimed m claims none = λ i l d.
     absurd (omega (arith, l, len))
 
 -- the claim at a place
-pub claim-at : (m : Contents) (claims : List Claim) (i : ℕ) (d c : Claim) (offset : ℕ) (first end : ℤ)
-    → AreClaimed m claims → i < length claims → c ≡ get_or claims i d → offset ≡ c.offset → first ≡ c.first
-    → end ≡ c.end → IsClaim m (record { offset = offset; first = first; end = end; fact = c.fact })
+pub claim-at : (m : Contents) (claims : List Claim) (i : ℕ) (d c : Claim) (label : ℕ) (first end : ℤ)
+    → AreClaimed m claims → i < length claims → c ≡ get_or claims i d → label ≡ c.label → first ≡ c.first
+    → end ≡ c.end → IsClaim m (record { label = label; first = first; end = end; fact = c.fact })
 unfolding AreClaimed
-claim-at m claims i d c offset first end all low is offset_is first_is end_is = λ t found.
+claim-at m claims i d c label first end all low is label_is first_is end_is = λ t found.
     let here : IsClaim m c = subst (IsClaim m) (sym is) (all i low d) in
-    let both = here t (ap (label_at m) (sym offset_is) ∙ found) in
+    let both = here t (ap (numbered_label m) (sym label_is) ∙ found) in
     (both.0, λ k l h. both.1 k (omega (arith, ints, first_is, l)) (omega (arith, ints, end_is, h)))
 
 -- a label of which something is claimed wants no loop
-pub claimed-plain : (m : Contents) (claims : List Claim) (i : ℕ) (d c : Claim) (offset : ℕ) → AreClaimed m claims
-    → i < length claims → c ≡ get_or claims i d → c.offset ≡ offset
-    → (t : Label) → label_at m offset ≡ Some t → wants_no_loop t.entries ≡ true
+pub claimed-plain : (m : Contents) (claims : List Claim) (i : ℕ) (d c : Claim) (label : ℕ) → AreClaimed m claims
+    → i < length claims → c ≡ get_or claims i d → c.label ≡ label
+    → (t : Label) → numbered_label m label ≡ Some t → wants_no_loop t.entries ≡ true
 unfolding AreClaimed
-claimed-plain m claims i d c offset all low is offset_is t found =
+claimed-plain m claims i d c label all low is label_is t found =
     let here : IsClaim m c = subst (IsClaim m) (sym is) (all i low d) in
-    (here t (ap (label_at m) offset_is ∙ found)).0
+    (here t (ap (numbered_label m) label_is ∙ found)).0
 
 pub no-loop-there : (o : Option CountedLoop) → is_some o ≡ false → o ≡ None
 no-loop-there None h = refl

@@ -1,12 +1,12 @@
 -- Entries that are cut by intervals.
-use Rattle.std.proofs.Common.{◌≡◌, ℕ, ◌+◌, ℤ, ◌≤ℤ◌, ◌<ℤ◌, Bool, true, false, ◌&&◌, cond, if◌then◌else◌, List, []}
-use Rattle.std.proofs.Common.{◌∷◌, ◌++◌, refl, sym, ap, subst, ◌∙◌, arith, Option, Some, None}
+use Rattle.std.proofs.Common.{◌≡◌, ◌⊎◌, ℕ, ◌+◌, ℤ, ◌≤ℤ◌, ◌<ℤ◌, Bool, true, false, ◌&&◌, cond, if◌then◌else◌, List, []}
+use Rattle.std.proofs.Common.{◌∷◌, ◌++◌, refl, sym, ap, subst, inl, inr, ◌∙◌, arith, Option, Some, None}
 use Rattle.std.specs.Prelude.{sum_by, not, is_some, IfSome}
 use Rattle.std.specs.List.{list_all}
 use Rattle.std.proofs.lemmas.Int.{ints, by_lt_z}
 use Rattle.std.proofs.lemmas.List.Folds.{list_all-append}
-use Rattle.std.proofs.lemmas.List.Sums.{sum_by-cons, sum_by_push}
-use Rattle.std.proofs.lemmas.Bool.{and_parts, and_from}
+use Rattle.std.proofs.lemmas.List.Sums.{sum_by-cons, sum_by_push, sum_by-append}
+use Rattle.std.proofs.lemmas.Bool.{and_parts, and_from, cases_Bool}
 use Rattle.std.proofs.Math.Bool.{and-true, and_assoc}
 use Rattle.small_laws.proofs.Comparisons.{le-int_le, int_le-true}
 use Rattle.module_format.specs.Rows.{Fact, Entry}
@@ -25,7 +25,7 @@ use Rattle.states.specs.Below.{says, entries_hold, is_whole, price}
 use Rattle.states.specs.Comparing.{loop_of}
 use Rattle.states.specs.Rows.{rise_from, AreApart}
 use Rattle.states.specs.Cutting.{is_on_side, kept_facts, rise_between, AreCut, IsCutTo, IsCutBefore, CutsOn, CutsEntry}
-use Rattle.states.specs.Cutting.{SaysOutside, SaysInside}
+use Rattle.states.specs.Cutting.{SaysOutside, SaysInside, IsPaidOutside}
 use Rattle.states.proofs.RowFacts.{about-before, about-behind, rise-parts}
 use Rattle.states.proofs.RowFacts.{unknown-below, entry_fact-before, entry_fact-within, entry_fact-behind}
 use Rattle.states.proofs.Comparisons.{entries_hold-says}
@@ -376,3 +376,36 @@ pub inside-said : (intervals : List Interval) (entries pieces : List Entry) (fac
     → SaysInside intervals facts (entry_fact entries)
 inside-said intervals entries pieces facts cut hold = λ k yes.
     (kept-said Inside intervals entries pieces facts k cut hold yes, cut.alone k yes)
+
+-- ---- parts of a row
+
+entry-either : (first second : List Entry) (k : ℤ) → (entry_fact (first ++ second) k ≡ entry_fact first k)
+    ⊎ (entry_fact (first ++ second) k ≡ entry_fact second k)
+entry-either [] second k = inr refl
+entry-either (entry ∷ first) second k = elim (cases_Bool (is_about entry k)) [
+  | inl here ↦ inl (rw here refl)
+  | inr past ↦ rw past (entry-either first second k)
+]
+
+-- what is paid where all words are tested is paid where some are
+pub outside-all : (intervals : List Interval) (facts : Facts) (entries : List Entry) (paid : ℕ)
+    → entries_hold facts entries ≡ true → list_all (is_whole facts) entries ≡ true
+    → sum_by (price facts) entries ≡ paid → IsPaidOutside intervals facts entries paid
+outside-all intervals facts entries paid hold whole due = record {
+  says = λ k no. entries_hold-says facts entries hold k;
+  whole = whole;
+  due = due;
+}
+
+-- what is paid for two parts of a row is paid for both
+pub outside-both : (intervals : List Interval) (facts : Facts) (first second : List Entry) (paid more : ℕ)
+    → IsPaidOutside intervals facts first paid → IsPaidOutside intervals facts second more
+    → IsPaidOutside intervals facts (first ++ second) (paid + more)
+outside-both intervals facts first second paid more one other = record {
+  says = λ k no. elim (entry-either first second k) [
+    | inl is ↦ rw is (one.says k no)
+    | inr is ↦ rw is (other.says k no)
+  ];
+  whole = list_all-append (is_whole facts) first second ∙ and_from _ _ one.whole other.whole;
+  due = sum_by-append (price facts) first second ∙ (rw (one.due, other.due) refl);
+}

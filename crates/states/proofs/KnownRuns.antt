@@ -1,12 +1,11 @@
 -- Words one after the other of which the same is known, and entries that hold by that.
-use Rattle.std.proofs.Common.{◌≡◌, ◌≢◌, ℕ, suc, ◌+◌, ◌*◌, ◌-◌, ◌/◌, ◌<◌, ◌≤◌, ℤ, pos, ◌+ℤ◌, ◌-ℤ◌, ◌≤ℤ◌, ◌<ℤ◌, true, false}
-use Rattle.std.proofs.Common.{Bool, ◌&&◌, cond, eqb, List, [], ◌∷◌, Option, Some, None, refl, sym, ap, ◌∙◌, subst, arith}
+use Rattle.std.proofs.Common.{◌≡◌, ℕ, suc, ◌+◌, ◌*◌, ◌-◌, ◌/◌, ℤ, pos, ◌+ℤ◌, ◌-ℤ◌, ◌≤ℤ◌, ◌<ℤ◌, true}
+use Rattle.std.proofs.Common.{Bool, ◌&&◌, eqb, List, [], ◌∷◌, Option, Some, None, refl, sym, ap, ◌∙◌, subst, arith}
 use Rattle.std.proofs.Common.{nat_abs, inl, inr}
 use Rattle.std.specs.Prelude.{sum_by, option_map, unwrap_or}
 use Rattle.std.specs.List.{list_all}
-use Rattle.std.proofs.lemmas.Bool.{and_from}
 use Rattle.std.proofs.lemmas.List.Sums.{sum_by-cons}
-use Rattle.std.proofs.lemmas.Int.{ints, by_lt_z}
+use Rattle.std.proofs.lemmas.Int.{ints}
 use Rattle.module_format.specs.Rows.{Fact, Entry}
 use Rattle.module_format.specs.Facts.{end_of}
 use Rattle.module_format.specs.Order.{least_word}
@@ -15,13 +14,13 @@ use Rattle.module_format.specs.declared.fact.Fact.TheVariants.{ReturnAddress}
 use Rattle.states.specs.declared.blocks.Block.{Block}
 use Rattle.states.specs.declared.known.Loop.{Loop as CountedLoop}
 use Rattle.states.specs.declared.known.WordFact.{WordFact}
-use Rattle.states.specs.declared.known.WordFact.TheVariants.{Alone, Index, Count}
+use Rattle.states.specs.declared.known.WordFact.TheVariants.{Alone}
 use Rattle.states.specs.declared.overlay.Written.{Written}
 use Rattle.states.specs.declared.span.Leaving.{Leaving}
 use Rattle.states.specs.declared.span.Leaving.TheVariants.{Become}
 use Rattle.states.specs.declared.span.Together.{Together}
-use Rattle.states.specs.State.{Facts, is_alone, is_same_number, by_itself, said_of, entry_fact}
-use Rattle.states.specs.Below.{implies, is_exactly, says, words_say, entries_hold, is_whole, price, holds_constant}
+use Rattle.states.specs.State.{Facts, is_same_number, said_of, entry_fact}
+use Rattle.states.specs.Below.{implies, is_exactly, says, words_say, entries_hold, is_whole, price}
 use Rattle.states.specs.Blocks.{block_words, block_numbered, first_of, fact_left_by, leaving_at, left_fact, facts_left}
 use Rattle.states.specs.Comparing.{loop_of, IsEntered}
 use Rattle.states.specs.Lookup.{lookup, fact_of_index, facts_over}

@@ -8,7 +8,6 @@ use Rattle.std.proofs.Common.{subst, arith, inl, inr, cond}
 use Rattle.std.specs.Prelude.{nat_lt, sum_by, if◌then◌else◌, Result, Ok, Err}
 use Rattle.std.specs.List.{list_all}
 use Rattle.std.proofs.lemmas.Bool.{cases_lt, cases_eq, and_parts}
-use Rattle.std.proofs.lemmas.Bool.Decides.{nat_tests}
 use Rattle.std.proofs.lemmas.Int.{ints}
 use Rattle.std.proofs.lemmas.List.{get_or_past, get_or-set_same, get_or-set_other}
 use Rattle.std.proofs.Math.ListN.{get_or, set}
@@ -16,27 +15,26 @@ use Rattle.std.proofs.lemmas.Nat.{div-add-mod'}
 use Rattle.std.proofs.Math.Nat.{mod-lt, mul-le-mul_right}
 use Rattle.module_format.specs.Rows.{Fact, Entry}
 use Rattle.module_format.specs.Contents.{Contents, Label, label_at}
-use Rattle.module_format.specs.declared.fact.Fact.TheVariants.{Unknown, Number, Pointer, CodeAddress, Loop}
-use Rattle.module_format.specs.declared.fact.Fact.TheVariants.{ReturnAddress}
+use Rattle.module_format.specs.declared.fact.Fact.TheVariants.{Number}
 use Rattle.states.specs.declared.known.WordFact.{WordFact}
 use Rattle.states.specs.declared.known.WordFact.TheVariants.{Alone}
 use Rattle.states.specs.declared.remembered.Changes.{Changes}
 use Rattle.states.specs.declared.remembered.Compared.{Compared}
 use Rattle.states.specs.declared.remembered.Remembered.{Remembered}
 use Rattle.states.specs.declared.span.Leaving.{Leaving}
-use Rattle.states.specs.declared.span.Leaving.TheVariants.{Become, Widen}
+use Rattle.states.specs.declared.span.Leaving.TheVariants.{Widen}
 use Rattle.states.specs.declared.rule.Rule.{Rule}
 use Rattle.states.specs.declared.rule.Rule.TheVariants as rules
-use Rattle.states.specs.State.{State, Facts, by_itself, is_alone, said_of, entry_fact}
+use Rattle.states.specs.State.{State, Facts, by_itself, is_alone, entry_fact}
 use Rattle.states.specs.Spans.{left_of}
-use Rattle.states.specs.Below.{View, implies, says, is_whole, entries_hold, agrees}
+use Rattle.states.specs.Below.{View, says, is_whole, entries_hold, agrees}
 use Rattle.states.specs.Below.{cost}
 use Rattle.states.specs.Below.{view, below, below_at}
 use Rattle.states.specs.Blocks.{block_words, first_of, is_widening, HaveRoom}
 use Rattle.states.specs.Implied.{BlockImplied, WantsOnlyWithin}
 use Rattle.states.specs.Comparing.{SaysAll, BlockSaysAll, stands}
 use Rattle.states.specs.Frames.{with_alone, with_span}
-use Rattle.states.specs.Remembered.{compared_at, time_of, index_time, word_time, HasTimes}
+use Rattle.states.specs.Remembered.{numbered_label, compared_at, time_of, index_time, word_time, HasTimes}
 use Rattle.states.specs.Remembered.{are_loops_of_two, whole_by, due_by, AreDueSince}
 use Rattle.states.specs.Remembered.{wants_no_loop, IsPaid, ChangedSay, allows, changes_of, written_at, written_in}
 use Rattle.states.specs.Remembered.{leaving_since, leaving_of_index, range_in}
@@ -177,7 +175,7 @@ remembered-changed said facts others lo number old new change far held alike age
             let time = ap (λ (c : Compared). c.time) same in
             let began = change.began in
             let after = change.later at in
-            let before = remembered.0 at t (ap (λ (m : Contents). label_at m at) (sym change.kept.same) ∙ found)
+            let before = remembered.0 at t (ap (λ (m : Contents). numbered_label m at) (sym change.kept.same) ∙ found)
             (omega (arith, time, began, later)) in
             let now = new.changed number in
             subst (λ (c : Compared). IsRemembered said lo new others t.entries c) (sym same)
@@ -370,25 +368,25 @@ left-held lo number leaving facts others old new left is time later =
         none-held lo number facts others (outside-block lo number leaving facts others is) time k n wanted here
 
 -- a comparison more
-pub remembered-put : (said facts : Facts) (lo : ℤ) (old new : Remembered) (t : Label) (offset paid : ℕ)
-    (is_plain : Bool) → IsPut offset paid is_plain old new
-    → label_at old.«module».now offset ≡ Some t → AreApart t.entries → IsPaid facts t.entries paid
+pub remembered-put : (said facts : Facts) (lo : ℤ) (old new : Remembered) (t : Label) (number paid : ℕ)
+    (is_plain : Bool) → IsPut number paid is_plain old new
+    → numbered_label old.«module».now number ≡ Some t → AreApart t.entries → IsPaid facts t.entries paid
     → (is_plain ≡ true → wants_no_loop t.entries ≡ true) → are_loops_of_two t.entries ≡ true
     → AreRemembered said facts lo old → AreRemembered said facts lo new
 unfolding AreRemembered
-remembered-put said facts lo old new t offset paid is_plain put label apart due plain pairs remembered = (
+remembered-put said facts lo old new t number paid is_plain put label apart due plain pairs remembered = (
   λ at other found later. elim (put.each at) [
     | inl kept ↦
         let time = ap (λ (c : Compared). c.time) kept in
         let began = put.began in
-        let before = remembered.0 at other (ap (λ (m : Contents). label_at m at) (sym put.same) ∙ found)
+        let before = remembered.0 at other (ap (λ (m : Contents). numbered_label m at) (sym put.same) ∙ found)
         (omega (arith, time, began, later)) in
         subst (λ (c : Compared). IsRemembered said lo new facts other.entries c) (sym kept)
         (still other.entries (compared_at old.compared.items at) before)
     | inr now ↦
         let one : Some other ≡ Some t =
-        sym found ∙ (ap (λ (m : Contents). label_at m at) put.same
-        ∙ (ap (label_at old.«module».now) now.0 ∙ label)) in
+        sym found ∙ (ap (λ (m : Contents). numbered_label m at) put.same
+        ∙ (ap (numbered_label old.«module».now) now.0 ∙ label)) in
         let label_is : other ≡ t = cc in
         subst (λ (c : Compared). IsRemembered said lo new facts other.entries c) (sym now.1)
         (subst (λ (l : Label). IsRemembered said lo new facts l.entries
@@ -457,7 +455,7 @@ remembered-copied said facts others lo old new copied is remembered = (
 
 -- the comparison with a label that is remembered
 pub remembered-at : (said facts : Facts) (lo : ℤ) (r : Remembered) (at : ℕ) (t : Label) (c : Compared)
-    → AreRemembered said facts lo r → c ≡ compared_at r.compared.items at → label_at r.«module».now at ≡ Some t
+    → AreRemembered said facts lo r → c ≡ compared_at r.compared.items at → numbered_label r.«module».now at ≡ Some t
     → r.began ≤ c.time → IsRemembered said lo r facts t.entries c
 unfolding AreRemembered
 remembered-at said facts lo r at t c remembered is found later =

@@ -1,5 +1,5 @@
 -- The sums of spans of words of several sizes, as they are kept.
-use Rattle.std.proofs.Common.{◌≡◌, ◌≢◌, ℕ, suc, ◌+◌, ◌*◌, ◌/◌, ◌%◌, ◌<◌, ◌≤◌, ℤ, pos, ◌+ℤ◌, ◌≤ℤ◌, ◌<ℤ◌, ◌^◌, true, false, cond, eqb}
+use Rattle.std.proofs.Common.{◌≡◌, ◌≢◌, ℕ, suc, ◌+◌, ◌*◌, ◌/◌, ◌%◌, ◌<◌, ℤ, pos, ◌+ℤ◌, ◌≤ℤ◌, ◌<ℤ◌, ◌^◌, true, false, cond, eqb}
 use Rattle.std.proofs.Common.{List, [], length, set, Option, Some, None, refl, sym, ap, ◌∙◌, subst, arith, inl, inr}
 use Rattle.std.specs.Prelude.{IfSome}
 use Rattle.std.proofs.lemmas.List.{get_or-set_other, get_or-set_same}
@@ -18,7 +18,7 @@ use Rattle.states.specs.declared.sums.Size.{Size}
 use Rattle.states.specs.declared.sums.Size.TheVariants.{Group, Page, Zone}
 use Rattle.states.specs.declared.sums.Sums.{Sums}
 use Rattle.states.specs.State.{Facts, by_itself}
-use Rattle.states.specs.Blocks.{block_words, first_of, sum_left, HaveRoom}
+use Rattle.states.specs.Blocks.{block_words, first_of, HaveRoom}
 use Rattle.states.specs.Frames.{with_alone, with_span}
 use Rattle.states.specs.Spans.{left_of, of_none, with_one, together}
 use Rattle.states.specs.Sums.{words_of, layer_of, sum_numbered, sum_after, AreSumsOf, AreSums}

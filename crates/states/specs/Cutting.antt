@@ -1,5 +1,5 @@
 -- Entries of which only those words are kept that intervals have, or only the others.
-use Rattle.std.specs.Prelude.{◌≡◌, ◌⊎◌, ℤ, ◌+◌, ◌≤ℤ◌, ◌<ℤ◌, int_le, Bool, true, false, not, ◌&&◌, ◌||◌, if◌then◌else◌}
+use Rattle.std.specs.Prelude.{◌≡◌, ◌⊎◌, ℕ, ℤ, ◌+◌, ◌≤ℤ◌, ◌<ℤ◌, int_le, Bool, true, false, not, ◌&&◌, ◌||◌, if◌then◌else◌}
 use Rattle.std.specs.Prelude.{List, [], ◌∷◌, sum_by}
 use Rattle.std.specs.List.{list_all}
 use Rattle.module_format.specs.Rows.{Entry}
@@ -20,6 +20,13 @@ use Rattle.states.specs.Rows.{rise_from, AreApart}
 -- of each word that no interval has, at least what is wanted is known
 abbrev pub SaysOutside : List Interval → Facts → Facts → Type 0
 SaysOutside intervals facts wanted = (k : ℤ) → is_among intervals k ≡ false → says (facts k) (wanted k) ≡ true
+
+-- so it is of each word that entries have and no interval has, no loop that they want is half known, and this is paid
+-- for those that are entered
+pub record IsPaidOutside (intervals : List Interval) (facts : Facts) (entries : List Entry) (paid : ℕ) : Type 0 where
+  pub says : SaysOutside intervals facts (entry_fact entries)
+  pub whole : list_all (is_whole facts) entries ≡ true
+  pub due : sum_by (price facts) entries ≡ paid
 
 -- of each word that an interval has, at least what is wanted is known, and what is wanted is no loop's
 abbrev pub SaysInside : List Interval → Facts → Facts → Type 0

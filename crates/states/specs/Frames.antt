@@ -1,6 +1,6 @@
 -- What is known of the words of a frame: what was written since the last label, over what the label's row says.
 use Rattle.std.specs.Prelude.{◌≡◌, ◌&&◌, Bool, true, false, if◌then◌else◌, ℕ, ℤ, pos, ◌+ℤ◌, ◌-ℤ◌, ◌≤ℤ◌, ◌<ℤ◌}
-use Rattle.std.specs.Prelude.{◌<◌, ◌≤◌, ◌/◌, ◌⊎◌, List, length, get_or, vec_len, Option}
+use Rattle.std.specs.Prelude.{◌<◌, ◌/◌, List, length, get_or, vec_len, Option}
 use Rattle.module_format.specs.Rows.{Fact}
 use Rattle.module_format.specs.declared.rows.Parameter.{Parameter}
 use Rattle.states.specs.declared.frame.Frame.{Frame}

@@ -3,8 +3,9 @@
 use Rattle.std.specs.Prelude.{◌≡◌, ◌≤◌, ◌<◌, ℕ, ◌+◌, ◌-◌, ◌*◌, ◌/◌, ℤ, pos, negsuc, ◌+ℤ◌, ◌-ℤ◌, Bool, true, false}
 use Rattle.std.specs.Prelude.{◌&&◌, ◌||◌, ◌==◌, nat_le, nat_lt, is_none, List, get_or, Option, Some, None, sum_by}
 use Rattle.std.specs.Prelude.{if◌then◌else◌}
-use Rattle.std.specs.List.{list_all}
+use Rattle.std.specs.List.{list_all, slice_get}
 use Rattle.std.proofs.Props.{props}
+use Rattle.module_format.specs.Contents.{Contents, Label}
 use Rattle.module_format.specs.Rows.{Fact, Entry}
 use Rattle.module_format.specs.declared.fact.Fact.TheVariants.{Loop, Number, Unknown}
 use Rattle.states.specs.declared.known.WordFact.{WordFact}
@@ -24,9 +25,13 @@ use Rattle.states.specs.Comparing.{SaysAll, loop_of}
 abbrev pub never : Compared
 never = record { time = 0; paid = 0; is_plain = false }
 
--- the last comparison with the label at an offset
+-- the label of a number
+abbrev pub numbered_label : Contents → ℕ → Option Label
+numbered_label m label = slice_get m.labels label
+
+-- the last comparison with the label of a number
 abbrev pub compared_at : List Compared → ℕ → Compared
-compared_at compared at = get_or compared at never
+compared_at compared label = get_or compared label never
 
 -- ---- times
 

@@ -1,17 +1,17 @@
 -- What is remembered of comparisons with labels, and how it changes.
-use Rattle.std.specs.Prelude.{◌≡◌, ◌<◌, ◌≤◌, ◌≢◌, ◌⊎◌, ℕ, ◌/◌, ℤ, pos, ◌-ℤ◌, Bool, true, false, ◌||◌, List, Some, sum_by}
+use Rattle.std.specs.Prelude.{◌≡◌, ◌<◌, ◌≤◌, ◌≢◌, ◌⊎◌, ℕ, ℤ, ◌-ℤ◌, Bool, true, false, ◌||◌, List, Some, sum_by}
 use Rattle.std.specs.Prelude.{vec_len}
 use Rattle.std.specs.List.{list_all}
 use Rattle.std.proofs.Props.{props}
 use Rattle.module_format.specs.Rows.{Entry}
-use Rattle.module_format.specs.Contents.{Label, label_at}
+use Rattle.module_format.specs.Contents.{Label}
 use Rattle.states.specs.declared.remembered.Compared.{Compared}
 use Rattle.states.specs.declared.remembered.Remembered.{Remembered}
 use Rattle.states.specs.declared.span.Leaving.{Leaving}
 use Rattle.states.specs.State.{Facts, is_alone, entry_fact}
 use Rattle.states.specs.Below.{says}
 use Rattle.states.specs.Blocks.{left_after, is_widening}
-use Rattle.states.specs.Remembered.{never, compared_at, time_of, word_time, changes_of, written_in}
+use Rattle.states.specs.Remembered.{numbered_label, never, compared_at, time_of, word_time, changes_of, written_in}
 use Rattle.states.specs.Remembered.{leaving_since, range_in, first_since, index_changed, wants_no_loop}
 use Rattle.states.specs.Remembered.{are_loops_of_two, whole_by, due_by, allows}
 
@@ -47,7 +47,7 @@ AreAged said facts lo r = (k : ℤ) → is_alone (facts k) ≡ was_alone said lo
 -- were last changed before that, it is known what is said.
 unfoldable pub AreRemembered : Facts → Facts → ℤ → Remembered → Type 0
 AreRemembered said facts lo r =
-    ((at : ℕ) (t : Label) → label_at r.«module».now at ≡ Some t → r.began ≤ (compared_at r.compared.items at).time
+    ((at : ℕ) (t : Label) → numbered_label r.«module».now at ≡ Some t → r.began ≤ (compared_at r.compared.items at).time
     → IsRemembered said lo r facts t.entries (compared_at r.compared.items at))
     × ((k : ℤ) → 1 ≤ word_time lo r.times.items k → word_time lo r.times.items k < r.began → facts k ≡ said k)
     × AreAged said facts lo r
@@ -100,8 +100,8 @@ pub record IsLeftSo (number : ℕ) (leaving : Leaving) (old new : Remembered) : 
   pub anew : is_widening leaving ≡ false
       → time_of new.times.items number ≤ (changes_of new.by_block.items number).written
 
--- the state was compared with the label at an offset, and this was paid
-pub record IsPut (offset paid : ℕ) (is_plain : Bool) (old new : Remembered) : Type 0 where
+-- the state was compared with the label of a number, and this was paid
+pub record IsPut (label paid : ℕ) (is_plain : Bool) (old new : Remembered) : Type 0 where
   pub same : new.«module».now ≡ old.«module».now
   pub times : new.times.items ≡ old.times.items
   pub firsts : new.firsts.words.items ≡ old.firsts.words.items
@@ -110,7 +110,7 @@ pub record IsPut (offset paid : ℕ) (is_plain : Bool) (old new : Remembered) : 
   pub time : new.time ≡ old.time
   pub began : new.began ≡ old.began
   pub each : (at : ℕ) → (compared_at new.compared.items at ≡ compared_at old.compared.items at)
-      ⊎ ((at ≡ offset)
+      ⊎ ((at ≡ label)
       × (compared_at new.compared.items at ≡ record { time = new.time; paid = paid; is_plain = is_plain }))
 
 -- the same is kept again, but for the comparisons

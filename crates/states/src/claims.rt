@@ -2,9 +2,9 @@
 #![tactic(auto)]
 
 ghost use Rattle.std.specs.Prelude.{◌≡◌, ◌≤◌, Some, true, vec_capacity, IfOk, IfSome, IsTrue};
-ghost use Rattle.module_format.specs.Contents.{Contents, Label, label_of, label_at};
+ghost use Rattle.module_format.specs.Contents.{Contents, Label, label_of};
 ghost use Rattle.states.specs.Claims.{IsClaim, AreClaimed, AreClaimed-prop};
-ghost use Rattle.states.specs.Remembered.{wants_no_loop};
+ghost use Rattle.states.specs.Remembered.{numbered_label, wants_no_loop};
 ghost use Rattle.states.specs.Rows.{AreApart};
 
 use crate::blocks::block_words;
@@ -16,10 +16,10 @@ use certificate::Module;
 use module_format::{Entry, Fact, LabelRow};
 use std::alloc::{AllocError, Global};
 
-/// A fact that says what the label at a code offset wants of the words from `first` up to `end` (not included).
+/// A fact that says what the label of a number wants of the words from `first` up to `end` (not included).
 #[derive(Clone, Copy)]
 pub(crate) struct Claim {
-    pub offset: u32,
+    pub label: usize,
     pub first: i64,
     pub end: i64,
     pub fact: Fact,
@@ -63,24 +63,24 @@ fn meet(row: &[Entry], first: i64, end: i64) -> Fact
     fact
 }
 
-/// What is claimed of what the label at a code offset, which wants no loop, wants of some words. Where no fact says it,
+/// What is claimed of what the label of a number, which wants no loop, wants of some words. Where no fact says it,
 /// nothing is claimed.
-fn claim_of(offset: u32, row: &LabelRow, first: i64, end: i64) -> Claim
+fn claim_of(label: usize, row: &LabelRow, first: i64, end: i64) -> Claim
     requires apart { AreApart row.now.entries.items }
     requires plain { wants_no_loop row.now.entries.items ≡ true }
-    ensures { (m : Contents) → label_at m offset ≡ Some (label_of row.now) → IsClaim m result }
+    ensures { (m : Contents) → numbered_label m label ≡ Some (label_of row.now) → IsClaim m result }
 {
     let fact = meet(&row.entries, first, end);
     if all_implied(&row.entries, first, end, fact) {
         return Claim {
-            offset,
+            label,
             first,
             end,
             fact,
         };
     }
     Claim {
-        offset,
+        label,
         first: end,
         end,
         fact,
@@ -96,7 +96,7 @@ fn is_large(row: &LabelRow, blocks: usize) -> bool {
 #[derive(Drop)]
 pub(crate) struct Claims<'a> {
     pub module: &'a Module<'a>,
-    /// For each code offset the place after that of the first claim of its label, or 0 if there is none.
+    /// For each label the place after that of its first claim, or 0 if there is none.
     pub places: Vec<usize>,
     pub claims: Vec<Claim>,
     pub room: usize,
@@ -119,7 +119,7 @@ impl<'a> Claims<'a> {
                 room = room.saturating_add(blocks);
             }
         }
-        let places = vec![in alloc; 0; module.tables().code.len()]?;
+        let places = vec![in alloc; 0; module.tables().labels.len()]?;
         let claims = Vec::with_capacity(alloc, room)?;
         Ok(Claims {
             module,
@@ -130,39 +130,38 @@ impl<'a> Claims<'a> {
     }
 
     /// The fact that is claimed of the words from `first` up to `end` (not included), those of a block.
-    pub(crate) fn fact_of(&self, offset: u32, number: usize, first: i64, end: i64) -> Option<Fact>
+    pub(crate) fn fact_of(&self, label: usize, number: usize, first: i64, end: i64) -> Option<Fact>
         ensures { IfSome result (λ fact. IsClaim self.now.«module».now
-            (record { offset = offset; first = first; end = end; fact = fact })) }
+            (record { label = label; first = first; end = end; fact = fact })) }
     {
-        let place = *self.places.get(offset as usize)?;
+        let place = *self.places.get(label)?;
         let at = place.checked_sub(1)?.checked_add(number)?;
         if at >= self.claims.len() {
             return None;
         }
         let claim = self.claims[at];
-        if claim.offset != offset || claim.first != first || claim.end != end {
+        if claim.label != label || claim.first != first || claim.end != end {
             return None;
         }
         Some(claim.fact)
     }
 
-    /// Whether claims were made of the label at a code offset.
-    pub(crate) fn has(&self, offset: u32) -> bool
-        ensures { IsTrue result → (t : Label) → label_at self.now.«module».now offset ≡ Some t
+    /// Whether claims were made of the label of a number.
+    pub(crate) fn has(&self, label: usize) -> bool
+        ensures { IsTrue result → (t : Label) → numbered_label self.now.«module».now label ≡ Some t
             → wants_no_loop t.entries ≡ true }
     {
-        let index = offset as usize;
-        if index >= self.places.len() {
+        if label >= self.places.len() {
             return false;
         }
-        let Some(at) = self.places[index].checked_sub(1) else {
+        let Some(at) = self.places[label].checked_sub(1) else {
             return false;
         };
         if at >= self.claims.len() {
             return false;
         }
         let claim = self.claims[at];
-        claim.offset == offset
+        claim.label == label
     }
 
     /// One more is claimed, if there is room.
@@ -175,29 +174,28 @@ impl<'a> Claims<'a> {
         }
     }
 
-    /// Whether no claim was made of the label at a code offset, whose row is large. One is to be made now.
-    fn begins(&mut self, offset: u32, row: &LabelRow, blocks: usize) -> bool
+    /// Whether no claim was made of the label of a number, whose row is large. One is to be made now.
+    fn begins(&mut self, label: usize, row: &LabelRow, blocks: usize) -> bool
         ensures same { self.new.«module».now ≡ self.old.«module».now }
     {
-        let index = offset as usize;
-        if !is_large(row, blocks) || index >= self.places.len() {
+        if !is_large(row, blocks) || label >= self.places.len() {
             return false;
         }
-        if self.places[index] != 0 {
+        if self.places[label] != 0 {
             return false;
         }
-        self.places[index] = self.claims.len() + 1;
+        self.places[label] = self.claims.len() + 1;
         true
     }
 
-    /// Claims are made of the label at a code offset, if its row is large and wants no loop, and none was made: one for
+    /// Claims are made of the label of a number, if its row is large and wants no loop, and none was made: one for
     /// each block.
-    pub(crate) fn claim(&mut self, offset: u32, row: &LabelRow, lo: i32, blocks: usize)
-        requires label { label_at self.old.«module».now offset ≡ Some (label_of row.now) }
+    pub(crate) fn claim(&mut self, label: usize, row: &LabelRow, lo: i32, blocks: usize)
+        requires label { numbered_label self.old.«module».now label ≡ Some (label_of row.now) }
         requires apart { AreApart row.now.entries.items }
         ensures same { self.new.«module».now ≡ self.old.«module».now }
     {
-        if !self.begins(offset, row, blocks) {
+        if !self.begins(label, row, blocks) {
             return;
         }
         if !wants_no_loop(&row.entries) {
@@ -206,7 +204,7 @@ impl<'a> Claims<'a> {
         let mut first = i64::from(lo);
         for _ in 0..blocks {
             let end = first.saturating_add(block_words() as i64);
-            self.add(claim_of(offset, row, first, end));
+            self.add(claim_of(label, row, first, end));
             first = end;
         }
     }

@@ -4,6 +4,7 @@ ghost use Rattle.std.specs.Prelude.{◌≡◌, ◌≤◌, SomeIff, IfOk, IfSome,
 ghost use Rattle.module_format.specs.Contents.{Contents, label_of, label_at};
 ghost use Rattle.states.specs.Below.{view, cost, is_plain, agrees, compared, below, below_at};
 ghost use Rattle.states.specs.Comparing.{stands};
+ghost use Rattle.states.specs.Remembered.{numbered_label};
 ghost use Rattle.states.specs.Rows.{AreApart};
 ghost use Rattle.states.specs.Views.{state_of, BelongsTo, IsLeft};
 ghost use Rattle.states.specs.Numbers.{reported};
@@ -11,6 +12,7 @@ ghost use Rattle.states.specs.Numbers.{reported};
 use crate::implication::implies;
 use crate::known::Mode;
 use crate::laws::label_rows_are_sound;
+use crate::numbered::{Numbered, numbered_row};
 use crate::rule::{Rule, RuleFault};
 use crate::state::State;
 use module_format::LabelRow;
@@ -142,10 +144,10 @@ pub fn cost_of_label(state: &mut State, row: &LabelRow) -> Result<u64, Rule>
     cost_somehow(state, row)
 }
 
-/// What it costs to go on as the label at an offset, if a comparison with it is remembered that tells so.
+/// What it costs to go on as the label of a number, if a comparison with it is remembered that tells so.
 #[tactic(auto, unfolding(crate::specs::Below::below))]
-fn recalled(state: &mut State, to: u32, row: &LabelRow) -> Option<u64>
-    requires label { label_at state.old.frame.remembered.«module».now to ≡ Some (label_of row.now) }
+fn recalled(state: &mut State, label: usize, row: &LabelRow) -> Option<u64>
+    requires label { numbered_label state.old.frame.remembered.«module».now label ≡ Some (label_of row.now) }
     requires apart { AreApart row.now.entries.items }
     ensures cost { IfSome result (λ cost. below (state_of state.old) (label_of row.now) ≡ Ok cost) }
     ensures left { IsLeft state.old state.new }
@@ -154,7 +156,7 @@ fn recalled(state: &mut State, to: u32, row: &LabelRow) -> Option<u64>
     if !stands(state, row) {
         return None;
     }
-    let paid = state.frame.recall(to, row)?;
+    let paid = state.frame.recall(label, row)?;
     let cost = paid.checked_add(row.number)?;
     if state.number < cost {
         return None;
@@ -171,15 +173,15 @@ pub fn cost_at(state: &mut State, to: u32) -> Result<u64, Rule>
 {
     let module = state.frame.remembered.module;
     let _tables = module.tables();
-    let Some(row) = module.label_at(to) else {
+    let Some(Numbered { label, row }) = numbered_row(module, to) else {
         return Err(Rule::Label);
     };
     label_rows_are_sound();
-    if let Some(cost) = recalled(state, to, row) {
+    if let Some(cost) = recalled(state, label, row) {
         return Ok(cost);
     }
     let cost = cost_somehow(state, row)?;
-    state.frame.remember(to, row, cost - row.number);
+    state.frame.remember(label, row, cost - row.number);
     Ok(cost)
 }
 

@@ -162,6 +162,42 @@ fn cut_entry<'a>(
     }
 }
 
+/// The entries of a row in three parts.
+#[derive(Clone, Copy)]
+pub(crate) struct Parts<'a> {
+    /// Those that end before all words of intervals.
+    pub before: &'a [Entry],
+    pub among: &'a [Entry],
+    /// Those that begin after all words of intervals.
+    pub behind: &'a [Entry],
+}
+
+/// The first word that an interval has, and the first after all of them, of intervals that rise.
+fn bounds_of(intervals: &[Interval]) -> (i64, i64) {
+    match (intervals.first(), intervals.last()) {
+        (Some(first), Some(last)) => (i64::from(first.lo), i64::from(last.hi)),
+        _ => (i64::MAX, i64::MAX),
+    }
+}
+
+/// A row in parts, of which only the second one may have words of intervals that rise. It takes a logarithm of steps.
+pub(crate) fn parts_of<'a>(row: &'a [Entry], intervals: &[Interval]) -> Parts<'a>
+    requires { AreApart row.now }
+    ensures all { row.now ≡ result.before.now ++ (result.among.now ++ result.behind.now) }
+    ensures before { AreApart result.before.now }
+    ensures among { AreApart result.among.now }
+    ensures behind { AreApart result.behind.now }
+{
+    let (first, end) = bounds_of(intervals);
+    let (before, rest) = row.split_at(row.partition_point(|entry| end_of(entry) <= first));
+    let (among, behind) = rest.split_at(rest.partition_point(|entry| start_of(entry) < end));
+    Parts {
+        before,
+        among,
+        behind,
+    }
+}
+
 /// The pieces become the words of entries that are kept, by one pass over entries and intervals. `None`: an interval
 /// has a word of a loop, or there is no capacity for a piece.
 pub(crate) fn cut(

@@ -397,7 +397,25 @@ impl Frame<'_> {
     }
 
     /// What is paid for the loops that a row wants and that are entered. At least what the row wants is known of each
-    /// word, and no loop that it wants is half known. `None`: one of these fails, or too many words were changed.
+    /// word, and no loop that it wants is half known. `None`: one of these fails. Each word that was changed is sought
+    /// in the row.
+    pub(crate) fn paid_by_rows(&self, row: &[Entry]) -> Option<u128>
+        requires { AreApart row.now }
+        ensures hold { IfSome result (λ _. entries_hold (frame_facts self.now) row.now ≡ true) }
+        ensures whole { IfSome result (λ _. list_all (is_whole (frame_facts self.now)) row.now ≡ true) }
+        ensures paid { IfSome result (λ paid. sum_by (price (frame_facts self.now)) row.now ≡ paid) }
+    {
+        if !self.written_holds(row) {
+            return None;
+        }
+        if !self.left_holds(row) {
+            return None;
+        }
+        let paid = self.row_paid(row)?;
+        Some(paid)
+    }
+
+    /// The same, or `None` if too many words were changed.
     pub(crate) fn paid_quickly(&self, row: &[Entry]) -> Option<u128>
         requires { AreApart row.now }
         ensures hold { IfSome result (λ _. entries_hold (frame_facts self.now) row.now ≡ true) }
@@ -407,14 +425,7 @@ impl Frame<'_> {
         if self.asks_each(row) {
             return None;
         }
-        if !self.written_holds(row) {
-            return None;
-        }
-        if !self.left_holds(row) {
-            return None;
-        }
-        let paid = self.row_paid(row)?;
-        Some(paid)
+        self.paid_by_rows(row)
     }
 
     /// Whether no word is one of a loop by what is known and by what a row wants. The time grows with the entries of

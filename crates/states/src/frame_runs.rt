@@ -21,7 +21,7 @@ use crate::frame_rows::weight_of;
 use crate::implication::{holds_constant, implies, is_exactly, says};
 use crate::known::WordFact;
 use crate::row::{end_of, loop_of, start_of};
-use crate::runs::{Run, run_from};
+use crate::runs::{Run, run_from, run_near};
 use crate::span::{Leaving, is_number};
 use crate::sums::Size;
 use module_format::{Entry, Fact};
@@ -31,6 +31,8 @@ use module_format::{Entry, Fact};
 struct Passed<'a> {
     rest: &'a [Entry],
     paid: u128,
+    /// A place of the label's row that is near to what is left.
+    near: usize,
 }
 
 /// A block of words, and the first word after it.
@@ -124,8 +126,8 @@ fn paid_by(fact: Fact, entry: &Entry) -> Option<u128>
 
 impl Frame<'_> {
     /// The words of a block from one up to `end` (not included), or some of the first of them, of which the same is
-    /// known.
-    fn run_in(&self, number: usize, word: i64, end: i64) -> Option<Run>
+    /// known. The label's row is asked from a place on that may be near.
+    fn run_in(&self, number: usize, near: usize, word: i64, end: i64) -> Option<Run>
         requires some { word <ℤ end }
         requires low { first_of self.now.lo number ≤ℤ word }
         requires high { end ≤ℤ (first_of self.now.lo number +ℤ pos block_words) }
@@ -133,15 +135,16 @@ impl Frame<'_> {
     {
         let left = self.by_block.get(number).left;
         if let Some(Leaving::Become(fact)) = left {
-            return Some(Run { end, fact });
+            return Some(Run { end, fact, near });
         }
         if self.overlay.is_touched(number) {
             return None;
         }
-        let run = run_from(self.row, word, end)?;
+        let run = run_near(self.row, near, word, end)?;
         Some(Run {
             end: run.end,
             fact: left_fact(left, run.fact),
+            near: run.near,
         })
     }
 
@@ -166,13 +169,14 @@ impl Frame<'_> {
     }
 
     /// The words from one up to `end` (not included), or some of the first of them in its block, of which the same is
-    /// known: if no word of the block was written, those of which the label's row says the same.
-    pub(crate) fn known_run(&self, word: i64, end: i64) -> Option<Run>
+    /// known: if no word of the block was written, those of which the label's row says the same, which is asked from a
+    /// place on that may be near.
+    pub(crate) fn known_run(&self, near: usize, word: i64, end: i64) -> Option<Run>
         requires { word <ℤ end }
         ensures { IfSome result (IsRun (frame_facts self.now) word end) }
     {
         let place = self.block_of(word)?;
-        let run = self.run_in(place.number, word, end.min(place.end))?;
+        let run = self.run_in(place.number, near, word, end.min(place.end))?;
         Some(run)
     }
 
@@ -184,7 +188,7 @@ impl Frame<'_> {
         ensures alike { AreAlike (frame_facts self.now) word end result }
         ensures fits { LoopFits result.fact }
     {
-        match self.known_run(word, end) {
+        match self.known_run(0, word, end) {
             Some(run) => Alike {
                 end: run.end,
                 fact: WordFact::Alone(run.fact),
@@ -393,12 +397,16 @@ impl Frame<'_> {
             sum = next;
             rest = later;
         }
-        Passed { rest, paid: sum }
+        Passed {
+            rest,
+            paid: sum,
+            near: run.near,
+        }
     }
 
     /// What is left once the first entry of a row is passed, or more, by the words of which the same is known as of its
     /// first one.
-    fn past_known<'b>(&self, from: &'b [Entry], paid: u128) -> Option<Passed<'b>>
+    fn past_known<'b>(&self, near: usize, from: &'b [Entry], paid: u128) -> Option<Passed<'b>>
         ensures passed { IfSome result (λ next.
             (row : List Row) → IsPassed (frame_facts self.now) row from.now paid
             → IsPassed (frame_facts self.now) row next.rest.now next.paid) }
@@ -406,7 +414,7 @@ impl Frame<'_> {
     {
         let (entry, _later) = from.split_first()?;
         let word = start_of(entry);
-        let run = self.known_run(word, word + block_words() as i64)?;
+        let run = self.known_run(near, word, word + block_words() as i64)?;
         let next = self.past_run(from, paid, word, run);
         if next.rest.len() < from.len() {
             return Some(next);
@@ -425,7 +433,7 @@ impl Frame<'_> {
     }
 
     /// What is left once the first entry of a row is passed by what is known of its words.
-    fn past_entry<'b>(&mut self, from: &'b [Entry], paid: u128) -> Option<Passed<'b>>
+    fn past_entry<'b>(&mut self, near: usize, from: &'b [Entry], paid: u128) -> Option<Passed<'b>>
         ensures passed { IfSome result (λ next.
             (row : List Row) → IsPassed (frame_facts self.new) row from.now paid
             → IsPassed (frame_facts self.new) row next.rest.now next.paid) }
@@ -439,11 +447,12 @@ impl Frame<'_> {
         Some(Passed {
             rest: later,
             paid: sum,
+            near,
         })
     }
 
     /// What is left once the first entry of a row is passed, or more.
-    fn past_first<'b>(&mut self, from: &'b [Entry], paid: u128) -> Option<Passed<'b>>
+    fn past_first<'b>(&mut self, near: usize, from: &'b [Entry], paid: u128) -> Option<Passed<'b>>
         ensures passed { IfSome result (λ next.
             (row : List Row) → IsPassed (frame_facts self.new) row from.now paid
             → IsPassed (frame_facts self.new) row next.rest.now next.paid) }
@@ -451,10 +460,10 @@ impl Frame<'_> {
         ensures facts { frame_facts self.new ≡ frame_facts self.old }
         ensures room { SameRoom self.old self.new }
     {
-        if let Some(next) = self.past_known(from, paid) {
+        if let Some(next) = self.past_known(near, from, paid) {
             return Some(next);
         }
-        self.past_entry(from, paid)
+        self.past_entry(near, from, paid)
     }
 
     /// What is paid for the loops that a row wants and that are entered, if each of its entries holds by what is known.
@@ -465,10 +474,12 @@ impl Frame<'_> {
     {
         let mut rest = row;
         let mut paid = 0;
+        let mut near = 0;
         while !rest.is_empty() {
-            let next = self.past_first(rest, paid)?;
+            let next = self.past_first(near, rest, paid)?;
             rest = next.rest;
             paid = next.paid;
+            near = next.near;
         }
         Some(paid)
     }
@@ -494,7 +505,7 @@ impl Frame<'_> {
         ensures room { SameRoom self.old self.new }
     {
         if !self.asks_runs(row) {
-            return self.paid_quickly(row);
+            return self.paid_by_rows(row);
         }
         let paid = self.entries_cost(row)?;
         Some(paid)

@@ -64,7 +64,7 @@ impl Frame<'_> {
         ensures few { IfSome result (λ piece. piece.count ≤ most) }
         ensures all { IfSome result (λ piece. piece.all ≡ together (frame_facts self.now) word piece.count) }
     {
-        let run = self.known_run(word, word + i64::from(most))?;
+        let run = self.known_run(0, word, word + i64::from(most))?;
         Some(Piece {
             count: run.end.abs_diff(word) as u32,
             all: Together::of_fact(run.fact),
@@ -165,7 +165,7 @@ impl Frame<'_> {
             return 0;
         }
         let word = self.word_at(index);
-        match self.known_run(word, word + i64::from(most)) {
+        match self.known_run(0, word, word + i64::from(most)) {
             Some(run) => run.end.abs_diff(word) as u32,
             None => 0,
         }

@@ -1,6 +1,6 @@
 //! Whether one fact says what a row wants of some words.
 
-ghost use Rattle.std.specs.Prelude.{◌≡◌, ℤ, ◌≤ℤ◌, IsTrue, true, None};
+ghost use Rattle.std.specs.Prelude.{◌≡◌, ◌<◌, ◌≤◌, ◌+◌, ℤ, ◌≤ℤ◌, IsTrue, true, None, drop, length};
 ghost use Rattle.states.specs.Below.{implies};
 ghost use Rattle.states.specs.Comparing.{loop_of};
 ghost use Rattle.states.specs.Implied.{AllImplied, WantsOnlyWithin};
@@ -29,6 +29,43 @@ pub(crate) fn from_word<'a>(row: &'a [Entry], word: i64) -> &'a [Entry]
         }
     }
     &row[low..]
+}
+
+/// Whether the entry that is so many places after one of a row begins at a word or before.
+#[inline(always)]
+fn begins_by(row: &[Entry], place: usize, step: usize, word: i64) -> bool
+    requires apart { AreApart row.now }
+    requires place { place ≤ length row.now }
+    ensures within { IsTrue result → (place + step) < length row.now }
+    ensures same { IsTrue result → (k : ℤ) → word ≤ℤ k
+        → entry_fact (drop (place + step) row.now) k ≡ entry_fact row.now k }
+{
+    step < row.len() - place && start_of(&row[place + step]) <= word
+}
+
+/// A place of a row before which no entry is about a word or a later one, found from a place that may be near, in as many
+/// steps as the logarithm of how far it is.
+pub(crate) fn place_near(row: &[Entry], near: usize, word: i64) -> usize
+    requires { AreApart row.now }
+    ensures within { result ≤ length row.now }
+    ensures same { (k : ℤ) → word ≤ℤ k → entry_fact (drop result row.now) k ≡ entry_fact row.now k }
+{
+    let mut place = 0;
+    if begins_by(row, place, near, word) {
+        place += near;
+    }
+    let mut step: usize = 1;
+    while begins_by(row, place, step, word) {
+        place += step;
+        step = step.saturating_mul(2);
+    }
+    while step > 1 {
+        step /= 2;
+        if begins_by(row, place, step, word) {
+            place += step;
+        }
+    }
+    place
 }
 
 /// Whether an entry wants no loop, and a fact says what it wants.

@@ -16,6 +16,7 @@ mod implied;
 mod intervals;
 mod known;
 mod laws;
+mod numbered;
 mod overlay;
 mod recalling;
 mod remembered;

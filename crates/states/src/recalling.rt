@@ -4,13 +4,13 @@
 ghost use Rattle.std.specs.Prelude.{◌≡◌, ◌<◌, ◌≤◌, ◌⊎◌, ◌*◌, ℕ, ℤ, pos, ◌+ℤ◌, ◌≤ℤ◌, ◌<ℤ◌, ◌^◌, IsTrue, IfSome, Some};
 ghost use Rattle.std.specs.Prelude.{IsFalse, true, vec_len, sum_by};
 ghost use Rattle.std.specs.List.{list_all};
-ghost use Rattle.module_format.specs.Contents.{label_of, label_at};
+ghost use Rattle.module_format.specs.Contents.{label_of};
 ghost use Rattle.states.specs.Blocks.{block_words, first_of};
 ghost use Rattle.states.specs.Comparing.{SaysAll, BlockSaysAll, loop_of};
 ghost use Rattle.states.specs.Below.{says};
 ghost use Rattle.states.specs.Frames.{frame_facts, IsKnown, IsLeftSince, EntryIsSaid, SameRoom};
 ghost use Rattle.states.specs.Implied.{BlockImplied};
-ghost use Rattle.states.specs.Remembered.{compared_at, time_of, changes_of, wants_no_loop};
+ghost use Rattle.states.specs.Remembered.{numbered_label, compared_at, time_of, changes_of, wants_no_loop};
 ghost use Rattle.states.specs.Remembered.{are_loops_of_two, range_says, IsPaid, ChangedSay};
 ghost use Rattle.states.specs.Remembered.{IsDueSince, AreDueSince};
 ghost use Rattle.states.specs.Remembering.{was_changed, was_alone};
@@ -231,10 +231,10 @@ impl Frame<'_> {
     }
 
     /// Whether no word of a block was changed since the state went on from a label, whose row says of each what is
-    /// claimed that the label at a code offset wants.
-    fn row_says(&self, offset: u32, number: usize, row: &LabelRow) -> bool
+    /// claimed that the label of a number wants.
+    fn row_says(&self, label: usize, number: usize, row: &LabelRow) -> bool
         requires some { number < vec_len self.now.remembered.times }
-        requires label { label_at self.now.remembered.«module».now offset ≡ Some (label_of row.now) }
+        requires label { numbered_label self.now.remembered.«module».now label ≡ Some (label_of row.now) }
         ensures { IsTrue result → BlockSaysAll (first_of self.now.lo number) (frame_facts self.now)
             (entry_fact row.now.entries.items) block_words }
     {
@@ -245,7 +245,7 @@ impl Frame<'_> {
         let index = number * block_words();
         let first = self.word_of(index);
         let end = self.word_of(index + block_words());
-        let Some(fact) = self.claims.fact_of(offset, number, first, end) else {
+        let Some(fact) = self.claims.fact_of(label, number, first, end) else {
             return false;
         };
         if loop_of(fact).is_some() {
@@ -366,14 +366,14 @@ impl Frame<'_> {
     /// how many may be asked after that.
     fn block_says(
         &self,
-        offset: u32,
+        label: usize,
         number: usize,
         row: &LabelRow,
         compared: Compared,
         most: u64,
     ) -> Option<u64>
         requires some { number < vec_len self.now.remembered.times }
-        requires label { label_at self.now.remembered.«module».now offset ≡ Some (label_of row.now) }
+        requires label { numbered_label self.now.remembered.«module».now label ≡ Some (label_of row.now) }
         requires apart { AreApart row.now.entries.items }
         requires known { IsKnown self.now row.now.entries.items compared }
         ensures { IfSome result (λ _. BlockSaysAll (first_of self.now.lo number) (frame_facts self.now)
@@ -382,7 +382,7 @@ impl Frame<'_> {
         if self.widened_says(number, &row.entries, compared) {
             return Some(most);
         }
-        if self.row_says(offset, number, row) {
+        if self.row_says(label, number, row) {
             return Some(most);
         }
         if self.sum_says(number, &row.entries) {
@@ -393,8 +393,8 @@ impl Frame<'_> {
 
     /// Whether at least what a row wants is known of each word of the blocks that were changed since a comparison. Where
     /// there was none, few words are asked one by one.
-    fn changed_say(&self, offset: u32, row: &LabelRow, compared: Compared) -> bool
-        requires label { label_at self.now.remembered.«module».now offset ≡ Some (label_of row.now) }
+    fn changed_say(&self, label: usize, row: &LabelRow, compared: Compared) -> bool
+        requires label { numbered_label self.now.remembered.«module».now label ≡ Some (label_of row.now) }
         requires apart { AreApart row.now.entries.items }
         requires known { IsKnown self.now row.now.entries.items compared }
         ensures { IsTrue result → ChangedSay self.now.lo self.now.remembered.times.items (frame_facts self.now)
@@ -403,7 +403,7 @@ impl Frame<'_> {
         let mut left = most_asked(compared);
         for number in 0..self.remembered.times.len() {
             if compared.time < self.remembered.times[number] {
-                match self.block_says(offset, number, row, compared, left) {
+                match self.block_says(label, number, row, compared, left) {
                     Some(rest) => left = rest,
                     None => return false,
                 }
@@ -412,24 +412,24 @@ impl Frame<'_> {
         true
     }
 
-    /// Whether the label at a code offset wants no loop. Where claims were made of it, its entries are not passed.
-    fn is_plain(&self, offset: u32, row: &LabelRow) -> bool
-        requires { label_at self.now.remembered.«module».now offset ≡ Some (label_of row.now) }
+    /// Whether the label of a number wants no loop. Where claims were made of it, its entries are not passed.
+    fn is_plain(&self, label: usize, row: &LabelRow) -> bool
+        requires { numbered_label self.now.remembered.«module».now label ≡ Some (label_of row.now) }
         ensures { IsTrue result → wants_no_loop row.now.entries.items ≡ true }
     {
-        if self.claims.has(offset) {
+        if self.claims.has(label) {
             return true;
         }
         wants_no_loop(&row.entries)
     }
 
     /// A comparison before all changes, with a row that wants no loop, and nothing outside the frame.
-    fn before_all(&self, offset: u32, row: &LabelRow) -> Option<Compared>
-        requires label { label_at self.now.remembered.«module».now offset ≡ Some (label_of row.now) }
+    fn before_all(&self, label: usize, row: &LabelRow) -> Option<Compared>
+        requires label { numbered_label self.now.remembered.«module».now label ≡ Some (label_of row.now) }
         requires apart { AreApart row.now.entries.items }
         ensures { IfSome result (IsKnown self.now row.now.entries.items) }
     {
-        if !self.is_plain(offset, row) {
+        if !self.is_plain(label, row) {
             return None;
         }
         let end = self.word_of(self.remembered.times.len() * block_words());
@@ -445,31 +445,31 @@ impl Frame<'_> {
 
     /// Whether blocks are asked where no comparison is remembered: too many words were changed to seek each in the row,
     /// or a fact is claimed of each block.
-    fn asks_blocks(&self, offset: u32, row: &LabelRow) -> bool {
-        self.claims.has(offset) || self.asks_each(&row.entries)
+    fn asks_blocks(&self, label: usize, row: &LabelRow) -> bool {
+        self.claims.has(label) || self.asks_each(&row.entries)
     }
 
-    /// The last comparison with the label at a code offset, if it was made since the state went on from another label,
+    /// The last comparison with the label of a number, if it was made since the state went on from another label,
     /// or else the one before all changes.
-    fn last(&self, offset: u32, row: &LabelRow) -> Option<Compared>
-        requires label { label_at self.now.remembered.«module».now offset ≡ Some (label_of row.now) }
+    fn last(&self, label: usize, row: &LabelRow) -> Option<Compared>
+        requires label { numbered_label self.now.remembered.«module».now label ≡ Some (label_of row.now) }
         requires apart { AreApart row.now.entries.items }
         ensures { IfSome result (IsKnown self.now row.now.entries.items) }
     {
-        let compared = self.remembered.at(offset as usize);
+        let compared = self.remembered.at(label);
         if compared.time < self.remembered.began {
-            if !self.asks_blocks(offset, row) {
+            if !self.asks_blocks(label, row) {
                 return None;
             }
-            let first = self.before_all(offset, row)?;
+            let first = self.before_all(label, row)?;
             return Some(first);
         }
         Some(compared)
     }
 
     /// Whether at least what a row wants is known of each word still.
-    fn says_still(&self, offset: u32, row: &LabelRow, compared: Compared) -> bool
-        requires label { label_at self.now.remembered.«module».now offset ≡ Some (label_of row.now) }
+    fn says_still(&self, label: usize, row: &LabelRow, compared: Compared) -> bool
+        requires label { numbered_label self.now.remembered.«module».now label ≡ Some (label_of row.now) }
         requires apart { AreApart row.now.entries.items }
         requires known { IsKnown self.now row.now.entries.items compared }
         ensures { IsTrue result → SaysAll (frame_facts self.now) (entry_fact row.now.entries.items) }
@@ -477,27 +477,27 @@ impl Frame<'_> {
         if compared.time == self.remembered.time {
             return true;
         }
-        self.changed_say(offset, row, compared)
+        self.changed_say(label, row, compared)
     }
 
     /// That comparison, if it tells what is paid now.
-    fn known(&self, offset: u32, row: &LabelRow) -> Option<Told>
-        requires label { label_at self.now.remembered.«module».now offset ≡ Some (label_of row.now) }
+    fn known(&self, label: usize, row: &LabelRow) -> Option<Told>
+        requires label { numbered_label self.now.remembered.«module».now label ≡ Some (label_of row.now) }
         requires apart { AreApart row.now.entries.items }
         ensures known { IfSome result (λ told. IsKnown self.now row.now.entries.items told.compared) }
         ensures paid { IfSome result (λ told. IsPaid (frame_facts self.now) row.now.entries.items told.paid) }
     {
-        let compared = self.last(offset, row)?;
-        if !self.says_still(offset, row, compared) {
+        let compared = self.last(label, row)?;
+        if !self.says_still(label, row, compared) {
             return None;
         }
         let paid = self.paid_since(row, compared)?;
         Some(Told { compared, paid })
     }
 
-    /// It is remembered what was paid at the label at a code offset.
-    fn put(&mut self, offset: u32, row: &LabelRow, paid: u64, is_plain: bool)
-        requires label { label_at self.old.remembered.«module».now offset ≡ Some (label_of row.now) }
+    /// It is remembered what was paid at the label of a number.
+    fn put(&mut self, label: usize, row: &LabelRow, paid: u64, is_plain: bool)
+        requires label { numbered_label self.old.remembered.«module».now label ≡ Some (label_of row.now) }
         requires apart { AreApart row.now.entries.items }
         requires paid { IsPaid (frame_facts self.old) row.now.entries.items paid }
         requires plain { IsTrue is_plain → wants_no_loop row.now.entries.items ≡ true }
@@ -505,7 +505,7 @@ impl Frame<'_> {
         ensures facts { frame_facts self.new ≡ frame_facts self.old }
         ensures room { SameRoom self.old self.new }
     {
-        self.remembered.put(offset as usize, paid, is_plain);
+        self.remembered.put(label, paid, is_plain);
     }
 
     /// All blocks are summed.
@@ -531,52 +531,52 @@ impl Frame<'_> {
 
     /// Sums are made that a comparison asks. Where none is remembered with a label of many entries, claims are made of
     /// it, if none were made, and all blocks are summed if too many words were changed to seek each in its row.
-    fn prepare(&mut self, offset: u32, row: &LabelRow)
-        requires label { label_at self.old.remembered.«module».now offset ≡ Some (label_of row.now) }
+    fn prepare(&mut self, label: usize, row: &LabelRow)
+        requires label { numbered_label self.old.remembered.«module».now label ≡ Some (label_of row.now) }
         requires apart { AreApart row.now.entries.items }
         ensures facts { frame_facts self.new ≡ frame_facts self.old }
         ensures room { SameRoom self.old self.new }
     {
-        let time = self.remembered.at(offset as usize).time;
+        let time = self.remembered.at(label).time;
         if time >= self.remembered.began {
             self.sum_written(time);
             return;
         }
         let blocks = self.remembered.times.len();
-        self.claims.claim(offset, row, self.lo, blocks);
+        self.claims.claim(label, row, self.lo, blocks);
         if self.asks_each(&row.entries) {
             self.sum_all();
         }
     }
 
-    /// What is paid at the label at a code offset, if a comparison with it is remembered that tells so. It is
+    /// What is paid at the label of a number, if a comparison with it is remembered that tells so. It is
     /// remembered from now on.
-    pub(crate) fn recall(&mut self, offset: u32, row: &LabelRow) -> Option<u64>
-        requires label { label_at self.old.remembered.«module».now offset ≡ Some (label_of row.now) }
+    pub(crate) fn recall(&mut self, label: usize, row: &LabelRow) -> Option<u64>
+        requires label { numbered_label self.old.remembered.«module».now label ≡ Some (label_of row.now) }
         requires apart { AreApart row.now.entries.items }
         ensures paid { IfSome result (IsPaid (frame_facts self.old) row.now.entries.items) }
         ensures facts { frame_facts self.new ≡ frame_facts self.old }
         ensures room { SameRoom self.old self.new }
     {
-        self.prepare(offset, row);
-        let Told { compared, paid } = self.known(offset, row)?;
-        self.put(offset, row, paid, compared.is_plain);
+        self.prepare(label, row);
+        let Told { compared, paid } = self.known(label, row)?;
+        self.put(label, row, paid, compared.is_plain);
         Some(paid)
     }
 
-    /// A comparison with the label at a code offset is remembered from now on, if each loop that it wants is of two
+    /// A comparison with the label of a number is remembered from now on, if each loop that it wants is of two
     /// words.
-    pub(crate) fn remember(&mut self, offset: u32, row: &LabelRow, paid: u64)
-        requires label { label_at self.old.remembered.«module».now offset ≡ Some (label_of row.now) }
+    pub(crate) fn remember(&mut self, label: usize, row: &LabelRow, paid: u64)
+        requires label { numbered_label self.old.remembered.«module».now label ≡ Some (label_of row.now) }
         requires apart { AreApart row.now.entries.items }
         requires paid { IsPaid (frame_facts self.old) row.now.entries.items paid }
         ensures facts { frame_facts self.new ≡ frame_facts self.old }
         ensures room { SameRoom self.old self.new }
     {
         if wants_no_loop(&row.entries) {
-            self.put(offset, row, paid, true);
+            self.put(label, row, paid, true);
         } else if are_loops_of_two(&row.entries) {
-            self.put(offset, row, paid, false);
+            self.put(label, row, paid, false);
         }
     }
 }

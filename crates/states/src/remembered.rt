@@ -11,7 +11,7 @@ use crate::span::Leaving;
 use certificate::Module;
 use std::alloc::{AllocError, Global};
 
-/// A comparison of the state with the label at a code offset.
+/// A comparison of the state with the label of a number.
 #[derive(Clone, Copy)]
 pub(crate) struct Compared {
     /// When it was made, or 0 if it was not.
@@ -72,14 +72,14 @@ fn first_changes(alloc: Global, count: usize) -> Result<Vec<Changes>, AllocError
     vec![in alloc; Changes::FIRST; count]
 }
 
-/// No comparison with the label at each of so many offsets.
+/// No comparison with each of so many labels.
 fn none_compared(alloc: Global, count: usize) -> Result<Vec<Compared>, AllocError>
     ensures { IfOk result (λ v. (at : ℕ) → compared_at v.items at ≡ never) }
 {
     vec![in alloc; Compared::NEVER; count]
 }
 
-/// The last comparison with the label at each code offset, and when words were last changed. All that it needs is
+/// The last comparison with each label, and when words were last changed. All that it needs is
 /// allocated when it is made.
 #[derive(Drop)]
 pub(crate) struct Remembered<'a> {
@@ -126,7 +126,7 @@ impl<'a> Remembered<'a> {
         let times = first_times(alloc, blocks)?;
         let firsts = Firsts::new(alloc, words, blocks)?;
         let by_block = first_changes(alloc, blocks)?;
-        let compared = none_compared(alloc, module.tables().code.len())?;
+        let compared = none_compared(alloc, module.tables().labels.len())?;
         Ok(Remembered {
             module,
             times,
@@ -157,14 +157,14 @@ impl<'a> Remembered<'a> {
         })
     }
 
-    /// The last comparison with the label at a code offset.
-    pub(crate) fn at(&self, offset: usize) -> Compared
-        ensures { result ≡ compared_at self.now.compared.items offset }
+    /// The last comparison with the label of a number.
+    pub(crate) fn at(&self, label: usize) -> Compared
+        ensures { result ≡ compared_at self.now.compared.items label }
     {
-        if offset >= self.compared.len() {
+        if label >= self.compared.len() {
             return Compared::NEVER;
         }
-        self.compared[offset]
+        self.compared[label]
     }
 
     /// When a block of words was last changed.
@@ -273,14 +273,14 @@ impl<'a> Remembered<'a> {
         self.began = self.time;
     }
 
-    /// The state was compared with the label at a code offset, and this was paid.
-    pub(crate) fn put(&mut self, offset: usize, paid: u64, is_plain: bool)
-        ensures put { IsPut offset paid is_plain self.old self.new }
+    /// The state was compared with the label of a number, and this was paid.
+    pub(crate) fn put(&mut self, label: usize, paid: u64, is_plain: bool)
+        ensures put { IsPut label paid is_plain self.old self.new }
         ensures len { vec_len self.new.times ≡ vec_len self.old.times }
         ensures words { vec_len self.new.firsts.words ≡ vec_len self.old.firsts.words }
     {
-        if offset < self.compared.len() {
-            self.compared[offset] = Compared {
+        if label < self.compared.len() {
+            self.compared[label] = Compared {
                 time: self.time,
                 paid,
                 is_plain,

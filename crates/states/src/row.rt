@@ -85,8 +85,20 @@ pub fn said_of(fact: Fact, is_first: bool) -> WordFact
     }
 }
 
-/// Whether a row's entries have at most `count` words. No entries are looked at after those that have more.
+/// How many words there are from the first of a row's entries to the last.
+fn width_of(row: &[Entry]) -> u64 {
+    match (row.first(), row.last()) {
+        (Some(first), Some(last)) => start_of(first).abs_diff(end_of(last)),
+        _ => 0,
+    }
+}
+
+/// Whether a row's entries have at most `count` words. No entries are looked at after those that have more, and none
+/// besides the first and the last if these lie close enough.
 pub(crate) fn has_at_most(row: &[Entry], count: u64) -> bool {
+    if width_of(row) <= count {
+        return true;
+    }
     let mut left = count;
     for entry in row {
         let Some(rest) = left.checked_sub(u64::from(entry.span)) else {

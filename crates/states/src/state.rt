@@ -18,10 +18,10 @@ ghost use Rattle.states.specs.Rows.{AreApart, LoopFits, IsRowOf};
 ghost use Rattle.states.specs.Views.{state_of, CanWrite, CanWriteSpan, BelongsTo, IsLeft, IsUsable, AreUsable};
 ghost use Rattle.states.specs.Room.{Covers, HasRoomForGuards};
 ghost use Rattle.states.specs.Below.{entries_hold, is_whole, price, holds_constant};
-ghost use Rattle.states.specs.Cutting.{SaysOutside, SaysInside, AreLoopsApart};
+ghost use Rattle.states.specs.Cutting.{SaysOutside, SaysInside, AreLoopsApart, IsPaidOutside};
 ghost use Rattle.states.specs.Spans.{is_in_span, together, on_span, after_change};
 
-use crate::cutting::{Side, cut};
+use crate::cutting::{Side, cut, parts_of};
 use crate::frame::Frame;
 use crate::intervals::have_words;
 use crate::known::{Guard, Known, Mode, Source, WordFact};
@@ -335,8 +335,21 @@ impl<'a> State<'a> {
         self.frame.paid(entries)
     }
 
+    /// What is paid for entries of whose words only those are tested that no interval has.
+    fn paid_in_pieces(&mut self, entries: &[Entry], intervals: &[Interval]) -> Option<u128>
+        requires apart { AreApart entries.now }
+        requires order { InOrder IntervalKeeps behind_interval least_word intervals.now }
+        ensures paid { IfSome result (IsPaidOutside intervals.now (state_of self.old).frame entries.now) }
+        ensures left { IsLeft self.old self.new }
+    {
+        cut(&mut self.pieces, Side::Outside, entries, intervals)?;
+        let paid = self.frame.paid(&self.pieces)?;
+        Some(paid)
+    }
+
     /// The same, but only the words that no interval has are tested. `None`: an interval has a word of a loop, or one
-    /// of the others fails. The time grows with the intervals besides.
+    /// of the others fails. The time grows with the intervals besides. Entries before and behind all intervals are
+    /// compared where they are.
     pub fn paid_outside(&mut self, entries: &[Entry], intervals: &[Interval]) -> Option<u128>
         requires apart { AreApart entries.now }
         requires order { InOrder IntervalKeeps behind_interval least_word intervals.now }
@@ -346,8 +359,11 @@ impl<'a> State<'a> {
         ensures paid { IfSome result (λ paid. sum_by (price (state_of self.old).frame) entries.now ≡ paid) }
         ensures left { IsLeft self.old self.new }
     {
-        cut(&mut self.pieces, Side::Outside, entries, intervals)?;
-        let paid = self.frame.paid(&self.pieces)?;
+        let parts = parts_of(entries, intervals);
+        let before = self.frame.paid(parts.before)?;
+        let among = self.paid_in_pieces(parts.among, intervals)?;
+        let behind = self.frame.paid(parts.behind)?;
+        let paid = before.checked_add(among.checked_add(behind)?)?;
         Some(paid)
     }
 

@@ -21,6 +21,7 @@ use certificate::Module;
 use facts::{
     Continuation, Started, Way, advance, is_instruction, leave, reserve_guards, start, way_of,
 };
+use machine_state::Instruction;
 use prefix_decoder::Instr;
 use states::{Rule, State, cost_of_label};
 use std::alloc::AllocError;
@@ -131,6 +132,7 @@ pub(crate) fn take_on<'a>(
 
 /// One instruction: whether a state falls into the next offset, or the rule that is broken. `is_reached`: there is a
 /// state at the offset. `entered`: what falling into it costs. The outer error is that memory ran out.
+#[tactic(auto, unfolding(facts::specs::Rules::way_of))]
 pub(crate) fn judge<'a>(
     module: &'a Module<'a>,
     state: &mut State<'a>,
@@ -150,8 +152,9 @@ pub(crate) fn judge<'a>(
         return Ok(Err(unreached(module, instr)));
     }
     reserve_guards(state)?;
-    Ok(match way_of(instr) {
-        Way::GoesOn => both(entered, advance(state, module, at, instr)),
+    let instruction = Instruction::of(instr.fun, instr.operand);
+    Ok(match way_of(instruction) {
+        Way::GoesOn => both(entered, advance(state, module, at, instr, instruction)),
         Way::EndsAlternation => both_at_end(entered, leave(state, module, at, instr)),
         Way::StartsBranch => both_at_start(entered, start(state, module, at, instr)),
     })

@@ -1,4 +1,4 @@
-use Rattle.std.proofs.Common.{◌≡◌, ◌≤◌, ◌+◌, arith, sym, ap, ◌∙◌}
+use Rattle.std.proofs.Common.{◌≤◌, ◌+◌, arith, sym, ap, ◌∙◌}
 use Rattle.module_format.specs.Contents.{label_of}
 use Rattle.states.specs.Below.{view, below}
 use Rattle.states.specs.Views.{state_of}

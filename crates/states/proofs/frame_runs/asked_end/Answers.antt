@@ -1,1 +1,0 @@
-use Rattle.states.proofs.frame_runs.asked_end.Goals as goal

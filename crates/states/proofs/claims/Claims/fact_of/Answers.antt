@@ -10,5 +10,5 @@ returns c =
     let at = c.in_ok-at.at in
     let low : at < length claims = search rules in
     let is : claim ≡ get_or claims at claim = search rules in
-    claim-at c.args.self.now.«module».now claims at claim claim c.args.offset c.args.first c.args.end
+    claim-at c.args.self.now.«module».now claims at claim claim c.args.label c.args.first c.args.end
     c.args.self.now.right low is (search rules) (search (rules, arith, ints)) (search (rules, arith, ints))

@@ -9,5 +9,5 @@ returns c = λ same t found.
     let at = c.in-Some.at in
     let low : at < length claims = search rules in
     let is : claim ≡ get_or claims at claim = search rules in
-    claimed-plain c.args.self.now.«module».now claims at claim claim c.args.offset c.args.self.now.right low is
+    claimed-plain c.args.self.now.«module».now claims at claim claim c.args.label c.args.self.now.right low is
     (search rules) t found

@@ -1,7 +1,6 @@
 use Rattle.std.proofs.Common.{rules, arith, SFits, ℤ, ◌≡◌, sym, ap, ◌∙◌, pos, ◌+ℤ◌}
 use Rattle.std.proofs.lemmas.Int.{ints, to_z-of_z}
 use Rattle.std.specs.Int.{w64}
-use Rattle.states.specs.State.{Facts}
 use Rattle.states.specs.Frames.{frame_facts}
 use Rattle.states.proofs.NextWords.{next-fits}
 use Rattle.states.proofs.frame.Frame.alike_from.Goals as goal

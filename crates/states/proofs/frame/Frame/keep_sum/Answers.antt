@@ -1,6 +1,6 @@
-use Rattle.std.proofs.Common.{arith, ◌≡◌, ℤ, pos, ◌+ℤ◌, ◌<◌, SFits, ap, ◌∙◌, sym, subst}
+use Rattle.std.proofs.Common.{arith, ℤ, pos, ◌+ℤ◌, ◌<◌, SFits, ap, ◌∙◌, sym, subst}
 use Rattle.std.specs.Prelude.{vec_len}
-use Rattle.std.proofs.lemmas.Int.{ints, to_z-of_z}
+use Rattle.std.proofs.lemmas.Int.{to_z-of_z}
 use Rattle.std.specs.Int.{w32, w64}
 use Rattle.states.specs.Frames.{frame_facts}
 use Rattle.states.specs.Spans.{together}

@@ -10,5 +10,5 @@ returns c =
     let frame = c.args.self.now in
     let kept = frame.remembered in
     let began = c.if-compared-self.false in
-    remembered-at (entry_fact frame.row.now) (frame_facts frame) frame.lo kept c.args.offset (label_of c.args.row.now)
+    remembered-at (entry_fact frame.row.now) (frame_facts frame) frame.lo kept c.args.label (label_of c.args.row.now)
     c.at-compared.result frame.compared c.at-compared.ensures c.requires.label (omega (arith, began))

@@ -1,4 +1,4 @@
-use Rattle.std.proofs.Common.{◌≡◌, ℤ, pos, ◌+ℤ◌, Bool, SFits, rules, arith, ap, ◌∙◌, sym, ◌||◌}
+use Rattle.std.proofs.Common.{◌≡◌, pos, ◌+ℤ◌, Bool, SFits, rules, arith, ap, ◌∙◌, sym, ◌||◌}
 use Rattle.std.proofs.lemmas.Int.{ints, to_z-of_z}
 use Rattle.std.specs.Int.{w64}
 use Rattle.states.specs.Remembering.{was_changed, was_alone}

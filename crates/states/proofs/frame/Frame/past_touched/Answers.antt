@@ -1,10 +1,8 @@
-use Rattle.std.proofs.Common.{rules, arith, SFits, ◌≡◌, sym, ap, ℤ, ◌<ℤ◌, ◌≤ℤ◌, pos, ◌+ℤ◌, ◌-ℤ◌, ◌∙◌}
+use Rattle.std.proofs.Common.{rules, arith, SFits, ◌≡◌, ap, ℤ, ◌<ℤ◌, ◌≤ℤ◌, pos, ◌+ℤ◌, ◌-ℤ◌}
 use Rattle.std.proofs.lemmas.Int.{ints, clamps, to_z-of_z}
 use Rattle.std.specs.Int.{w64}
 use Rattle.states.specs.declared.blocks.Block.{Block}
 use Rattle.states.specs.Blocks.{block_words, first_of, leaving_at}
-use Rattle.states.specs.Runs.{IsRun}
-use Rattle.states.specs.State.{entry_fact}
 use Rattle.states.proofs.KnownRuns.{left-over}
 use Rattle.states.proofs.frame.Frame.past_touched.Goals as goal
 use Rattle.states.proofs.frame.Frame.past_touched.Goals.{After-is_some}

@@ -1,5 +1,5 @@
-use Rattle.std.proofs.Common.{rules, arith, SFits, sym, ap, ◌∙◌}
-use Rattle.std.proofs.lemmas.Int.{ints, to_z-of_z}
+use Rattle.std.proofs.Common.{rules, SFits, sym, ap, ◌∙◌}
+use Rattle.std.proofs.lemmas.Int.{to_z-of_z}
 use Rattle.std.specs.Int.{w64}
 use Rattle.states.specs.declared.known.WordFact.{WordFact}
 use Rattle.states.specs.Below.{implies}

@@ -8,5 +8,5 @@ pub invariant_of-self-clause-compared : goal.invariant_of-self-clause-compared
 invariant_of-self-clause-compared c =
     let frame = c.args.self.now in
     remembered-put (entry_fact frame.row.now) (frame_facts frame) frame.lo frame.remembered c.put.new.self
-    (label_of c.args.row.now) c.args.offset c.args.paid c.args.is_plain c.put.ensures.put c.requires.label
+    (label_of c.args.row.now) c.args.label c.args.paid c.args.is_plain c.put.ensures.put c.requires.label
     c.requires.apart c.requires.paid c.requires.plain c.requires.pairs frame.compared

@@ -2,7 +2,8 @@ use Rattle.std.proofs.Common.{◌≡◌, rules, arith, pos, ◌+ℤ◌, ◌≤�
 use Rattle.std.proofs.lemmas.Int.{ints, to_z-of_z}
 use Rattle.std.specs.Int.{w64}
 use Rattle.small_laws.proofs.Comparisons.{int_le-true}
-use Rattle.module_format.specs.Contents.{Contents, label_of, label_at}
+use Rattle.module_format.specs.Contents.{Contents, label_of}
+use Rattle.states.specs.Remembered.{numbered_label}
 use Rattle.states.specs.Blocks.{block_words, first_of}
 use Rattle.states.specs.Frames.{frame_facts}
 use Rattle.states.specs.State.{entry_fact}
@@ -39,5 +40,5 @@ returns c = λ yes.
     (remembered-said (entry_fact frame.row.now) (frame_facts frame) frame.lo kept frame.compared)
     some (omega (arith, time, early)) first_is end_is same past ends
     (sym c.loop_of.ensures ∙ no-loop-there c.loop_of.result (sym c.is_some.ensures ∙ c.if-is_some.false))
-    (claim (label_of c.args.row.now) (ap (λ (m : Contents). label_at m c.args.offset) frame.alike
+    (claim (label_of c.args.row.now) (ap (λ (m : Contents). numbered_label m c.args.label) frame.alike
     ∙ c.requires.label)).1

@@ -1,6 +1,5 @@
 use Rattle.std.proofs.Common.{rules, arith, ◌≡◌, ℤ, ◌-ℤ◌, nat_abs, sym, ap, ◌∙◌}
-use Rattle.std.proofs.lemmas.Int.{ints, to_z-of_z}
-use Rattle.std.specs.Int.{w64}
+use Rattle.std.proofs.lemmas.Int.{ints}
 use Rattle.states.specs.Frames.{frame_facts}
 use Rattle.states.specs.Spans.{together}
 use Rattle.states.specs.Sums.{words_of}

@@ -1,4 +1,4 @@
-use Rattle.std.proofs.Common.{◌≡◌, ℕ, ◌*◌, ◌/◌, ap, sym, ◌∙◌, arith}
+use Rattle.std.proofs.Common.{ℕ, ◌*◌, ◌/◌, ap, sym, ◌∙◌, arith}
 use Rattle.states.specs.declared.sums.Layer.{Layer}
 use Rattle.states.specs.Sums.{words_of, layer_of, sum_numbered}
 use Rattle.states.proofs.SpanSums.{if-there, sum-there, of-size, whole-number}

@@ -2,7 +2,7 @@ use Rattle.std.proofs.Common.{refl}
 use Rattle.states.specs.State.{entry_fact}
 use Rattle.states.specs.Frames.{frame_facts}
 use Rattle.states.proofs.Comparisons.{says-combined, entries_hold-true}
-use Rattle.states.proofs.frame.Frame.paid_quickly.Goals as goal
+use Rattle.states.proofs.frame.Frame.paid_by_rows.Goals as goal
 
 pub returns-clause-hold : goal.returns-clause-hold
 returns-clause-hold c =
