@@ -4,6 +4,8 @@ ghost use Rattle.std.specs.Prelude.{◌≡◌, ◌++◌, ◌+◌, [], ◌∷◌,
 ghost use Rattle.std.specs.List.{AllByRecursion};
 ghost use Rattle.alternation_rules.specs.Guards.{exits};
 ghost use Rattle.rulings.specs.Places.{site_of};
+ghost use Rattle.rulings.specs.Telling.{Advances};
+ghost use Rattle.states.specs.Room.{HasRoomForGuards};
 ghost use Rattle.par_rules.specs.Telling.{labels_of};
 ghost use Rattle.states.specs.Views.{state_of, BelongsTo};
 ghost use Rattle.facts.specs.Rules.{rule_at, way_of};
@@ -19,7 +21,7 @@ use machine_state::Instruction;
 use par_rules::Started;
 use prefix_decoder::Instr;
 use rulings::{Continuation, Place};
-use states::{Guard, RuleFault, State, label_rows_are_sound};
+use states::{Guard, Rule, RuleFault, State, label_rows_are_sound};
 use std::alloc::Global;
 
 /// A state that follows an instruction, and the code offset where it holds.
@@ -181,6 +183,23 @@ fn start_branch<'a>(
     })
 }
 
+/// What `advance` does, of an instruction by its spelling.
+fn advance_over(
+    state: &mut State,
+    module: &Module,
+    at: usize,
+    instr: Instr,
+) -> Result<Continuation, Rule>
+    requires belongs { BelongsTo «module».now state.old }
+    requires room { HasRoomForGuards state.old }
+    requires goes_on { way_of instr ≡ GoesOn }
+    ensures ruling { Advances result (state_of state.new) (rule_at «module».now at instr (state_of state.old)) }
+    ensures belongs { BelongsTo «module».now state.new }
+{
+    let instruction = Instruction::of(instr.fun, instr.operand);
+    advance(state, module, at, instr, instruction)
+}
+
 /// The states that follow an instruction that goes on at one or two places, or nowhere.
 fn go_on<'a>(
     alloc: Global,
@@ -196,8 +215,7 @@ fn go_on<'a>(
     ensures belongs { IfOk result (Follow «module».now) }
 {
     let mut state = state.copy(alloc)?;
-    let instruction = Instruction::of(instr.fun, instr.operand);
-    let continuation = advance(&mut state, module, at, instr, instruction)?;
+    let continuation = advance_over(&mut state, module, at, instr)?;
     let next = offset_behind(at, instr.len);
     match continuation {
         Continuation::Falls | Continuation::Calls { .. } => Ok(Successors {
