@@ -171,6 +171,7 @@ fn disable_skip(place: &Place, state: &mut State) -> Result<Continuation, Rule>
 /// there. If the rule is broken, the state is left part of the way. `altend`, of which nothing goes on after itself,
 /// has `end_alternation`; it and an operation of another family break `Rule::Spelling` here.
 #[tactic(auto, unfolding(crate::specs::AlternationRules::alternation_rule))]
+#[inline(never)]
 pub fn advance_alternation(place: &Place, state: &mut State, op: Op) -> Result<Continuation, Rule>
     requires belongs { BelongsTo place.now.module.now state.old }
     requires room { HasRoomForGuards state.old }

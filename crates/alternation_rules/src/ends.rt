@@ -160,6 +160,7 @@ fn pays(place: &Place, state: &mut State) -> Result<(), Rule>
 /// Judges `altend`, by its rule: a process goes on at one of the labels to which the guards lead, each at the offset
 /// that `exit_at` returns. Nothing goes on after the instruction, and the state is used up.
 #[tactic(auto, unfolding(crate::specs::AlternationRules::altend_rule))]
+#[inline(never)]
 pub fn end_alternation(place: &Place, state: &mut State) -> Result<(), Rule>
     requires belongs { BelongsTo place.now.module.now state.old }
     requires keeps { Keeps place.now.module.now }

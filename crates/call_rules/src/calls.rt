@@ -181,6 +181,7 @@ fn touched(
 /// `call`: the procedure at the offset `distance` bytes from the next instruction, with A, B and C and what comes after
 /// them in its frame as parameters. If the rule is broken, the state is left part of the way.
 #[tactic(auto, unfolding(crate::specs::CallRules::call_rule))]
+#[inline(never)]
 pub fn call(place: &Place, state: &mut State, distance: i32) -> Result<Continuation, Rule>
     requires { BelongsTo place.now.module.now state.old }
     ensures ruling { let ruling = call_rule (site_of place.now) distance (state_of state.old) in

@@ -46,6 +46,7 @@ impl<'a> ProcessWriter<'a> {
     }
 
     /// Where the body of a procedure begins that is passed this: the pieces go on there, until it ends.
+    #[inline(never)]
     pub(crate) fn begin_instance(
         &mut self,
         limits: Limits,
@@ -88,6 +89,7 @@ impl<'a> ProcessWriter<'a> {
     }
 
     /// After the body of a procedure that was passed this, which ended so.
+    #[inline(never)]
     pub(crate) fn end_instance(
         &mut self,
         body: ProcessWriter<'a>,

@@ -206,6 +206,7 @@ impl<'a> ProcessWriter<'a> {
     }
 
     /// The code of an action that is no instance. The error is [`GenFault::Invalid`] for one.
+    #[inline(never)]
     fn write_action(&mut self, limits: Limits, action: &Action) -> Result<(), GenFault>
         ensures code { IfOk result (λ _. Appends self.old.listing self.new.listing self.new.label
             (action_code (frame_seen self.old.frame) (entries_of self.old.scope) self.old.label

@@ -281,6 +281,7 @@ fn message_out(place: &Place, state: &mut State) -> Result<Continuation, Rule>
 /// there. If the rule is broken, the state is left part of the way. An operation of another family breaks
 /// `Rule::Spelling`.
 #[tactic(auto, unfolding(crate::specs::MessageRules::message_rule))]
+#[inline(never)]
 pub fn advance_message(place: &Place, state: &mut State, op: Op) -> Result<Continuation, Rule>
     requires belongs { BelongsTo place.now.module.now state.old }
     requires keeps { Keeps place.now.module.now }

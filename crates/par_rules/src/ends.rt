@@ -93,6 +93,7 @@ fn leaves_agreed(module: &Module, par: &ParRow, state: &mut State) -> bool
 /// Judges `endp`, by its rule: the process ends, and nothing goes on after the instruction. The state is used up.
 /// `Rule::Label`: a branch does not leave what the label after its PAR says of the words that it writes.
 #[tactic(auto, unfolding(crate::specs::ParRules::endp_rule))]
+#[inline(never)]
 pub fn end_process(place: &Place, state: &mut State) -> Result<Continuation, Rule>
     requires { BelongsTo place.now.module.now state.old }
     ensures ruling { Advances result (state_of state.new) (endp_rule (site_of place.now) (state_of state.old)) }

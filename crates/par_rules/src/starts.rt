@@ -566,6 +566,7 @@ fn starts_branch(place: &Place, state: &mut State, a: Fact, found: &Found) -> Re
 /// is known of the registers. If the rule is broken, the state is left part of the way. `Rule::Label` and
 /// `Rule::Budget` speak of the label of the branch, and at the first start of a PAR of the label after it.
 #[tactic(auto, unfolding(crate::specs::ParRules::startp_rule))]
+#[inline(never)]
 pub fn start_process(place: &Place, state: &mut State) -> Result<Started, Rule>
     requires { BelongsTo place.now.module.now state.old }
     ensures ruling { let ruling = startp_rule (site_of place.now) (state_of state.old) in

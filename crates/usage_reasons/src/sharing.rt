@@ -10,6 +10,7 @@ use crate::walk::Walk;
 use occam_parser::{
     Action, Body, Branch, Choice, Construct, Expr, Guard, Place, Process, Replicator,
 };
+use program_sizes::GREATEST_SIZE;
 use program_uses::{
     Around, Direction, End, Parameter, Passing, SHARED_VARIABLE, Signature, Use, Uses, add_name,
     add_outlines, array_at, index_meaning, is_sequence, parameter_at, passing_of, place_in,
@@ -18,9 +19,6 @@ use program_uses::{
 use scalar_ranges::{Meaning, Scope};
 use std::alloc::Global;
 use std::collections::BTreeMap;
-
-/// How many turns of replicators are gone over at most: as many as `check` goes over.
-const MAX_TURNS: u32 = 8_388_608;
 
 /// A line of a component of a `PAR`.
 #[derive(Clone, Copy)]
@@ -47,6 +45,7 @@ struct Sharing {
     component: u32,
     /// The first line on which something is used.
     seen: BTreeMap<Use, Site>,
+    /// How many turns of replicators are gone over at most: as many as `check` goes over.
     turns_left: u32,
     found: Option<Shared>,
     /// Whether memory was enough.
@@ -60,7 +59,7 @@ impl Sharing {
             count,
             component: 0,
             seen: BTreeMap::new(alloc),
-            turns_left: MAX_TURNS,
+            turns_left: GREATEST_SIZE,
             found: None,
             complete: true,
         }

@@ -1,4 +1,5 @@
 //! Why a part of the line at fault breaks its rule, with what is known where it is.
+#![tactic(auto, using(crate::proofs::AtFault::explained))]
 
 ghost use Rattle.std.specs.Prelude.{IfSome};
 ghost use Rattle.scalar_ranges.specs.Scopes.{entries_of};
@@ -68,7 +69,6 @@ pub(crate) struct Site<'s, 'a> {
 
 impl<'a> Site<'_, 'a> {
     /// Why a part of the line breaks the rule.
-    #[tactic(auto, using(crate::proofs::AtFault::explained))]
     pub(crate) fn cause(self, part: Part<'_, 'a>) -> Option<Cause<'a>>
         ensures { IfSome result IsAtFault }
     {
@@ -85,7 +85,6 @@ impl<'a> Site<'_, 'a> {
     }
 
     /// Why a channel may not be used so, which begins at this token.
-    #[tactic(auto, using(crate::proofs::AtFault::explained))]
     fn misused(self, at: usize, channel: &Place<'a>, direction: Direction) -> Option<Cause<'a>>
         ensures { IfSome result IsAtFault }
     {
@@ -97,7 +96,6 @@ impl<'a> Site<'_, 'a> {
     }
 
     /// Why an input breaks the rule, which begins at this token.
-    #[tactic(auto, using(crate::proofs::AtFault::explained))]
     fn in_input(self, at: usize, channel: &Place<'a>, target: &Place<'a>) -> Option<Cause<'a>>
         ensures { IfSome result IsAtFault }
     {
@@ -108,7 +106,6 @@ impl<'a> Site<'_, 'a> {
     }
 
     /// Why an output breaks the rule.
-    #[tactic(auto, using(crate::proofs::AtFault::explained))]
     fn in_output(self, channel: &Place<'a>, value: &Expr<'a>) -> Option<Cause<'a>>
         ensures { IfSome result IsAtFault }
     {
@@ -119,7 +116,6 @@ impl<'a> Site<'_, 'a> {
     }
 
     /// Why an action breaks the rule.
-    #[tactic(auto, using(crate::proofs::AtFault::explained))]
     fn in_action(self, action: &Action<'a>) -> Option<Cause<'a>>
         ensures { IfSome result IsAtFault }
     {
@@ -137,7 +133,6 @@ impl<'a> Site<'_, 'a> {
     }
 
     /// Why an instance breaks the rule.
-    #[tactic(auto, using(crate::proofs::AtFault::explained))]
     fn in_instance(self, name: &[u8], actuals: &[Expr<'a>]) -> Option<Cause<'a>>
         ensures { IfSome result IsAtFault }
     {
@@ -161,7 +156,6 @@ impl<'a> Site<'_, 'a> {
     }
 
     /// Why the head of a block under a replicator breaks the rule.
-    #[tactic(auto, using(crate::proofs::AtFault::explained))]
     fn in_replicator(self, replicator: &Replicator<'a>) -> Option<Cause<'a>>
         ensures { IfSome result IsAtFault }
     {
