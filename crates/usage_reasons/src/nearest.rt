@@ -18,7 +18,18 @@ fn common_front(first: &[u8], second: &[u8]) -> usize
     len
 }
 
-/// Whether a name is another one with one byte changed, left out or put in.
+/// Whether two names are the same but for their first two bytes, which have changed places.
+fn is_swapped(first: &[u8], second: &[u8]) -> bool {
+    match (first.split_at_checked(2), second.split_at_checked(2)) {
+        (Some((pair, rest)), Some((other, other_rest))) => {
+            pair[0] == other[1] && pair[1] == other[0] && rest == other_rest
+        }
+        _ => false,
+    }
+}
+
+/// Whether a name is another one with one byte changed, left out or put in, or with two neighbours that have changed
+/// places.
 fn is_near(first: &[u8], second: &[u8]) -> bool {
     let front = common_front(first, second);
     let (rest, other) = (&first[front..], &second[front..]);
@@ -27,7 +38,10 @@ fn is_near(first: &[u8], second: &[u8]) -> bool {
         (Some((_, rest)), None) => rest.is_empty(),
         (None, Some((_, other))) => other.is_empty(),
         (Some((_, after)), Some((_, other_after))) => {
-            after == other_after || after == other || rest == other_after
+            after == other_after
+                || after == other
+                || rest == other_after
+                || is_swapped(rest, other)
         }
     }
 }
