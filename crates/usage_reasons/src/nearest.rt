@@ -38,10 +38,7 @@ fn is_near(first: &[u8], second: &[u8]) -> bool {
         (Some((_, rest)), None) => rest.is_empty(),
         (None, Some((_, other))) => other.is_empty(),
         (Some((_, after)), Some((_, other_after))) => {
-            after == other_after
-                || after == other
-                || rest == other_after
-                || is_swapped(rest, other)
+            after == other_after || after == other || rest == other_after || is_swapped(rest, other)
         }
     }
 }
