@@ -1,470 +1,173 @@
--- The fields of a module file: how many bytes they have, their names, and what is wanted of them.
-use Rattle.std.specs.Prelude.{Bool, true, false, codes}
+-- The fields of a module file: a table of what each one is, and of the groups that they come in.
+use Rattle.std.specs.Prelude.{◌≡◌, codes}
+use Prim.Native.String.{String}
 use Rattle.fact_texts.specs.Texts.{Text}
-use Rattle.file_faults.specs.declared.fields.Width.{Width}
-use Rattle.file_faults.specs.declared.fields.Width.TheVariants.{One, Two, Four, Eight}
+use Rattle.file_faults.specs.declared.fields.Number.{Number}
+use Rattle.file_faults.specs.declared.fields.Number.TheVariants.{Byte, Short, Word, SignedWord, Long}
+use Rattle.file_faults.specs.declared.fields.Number.TheVariants.{CodeBytes, ConstantBytes, Nothing}
+use Rattle.file_faults.specs.declared.fields.Group.{Group}
+use Rattle.file_faults.specs.declared.fields.Group.TheVariants as groups
+use Rattle.file_faults.specs.declared.fields.Role.{Role}
+use Rattle.file_faults.specs.declared.fields.Role.TheVariants as roles
+use Rattle.file_faults.specs.declared.fields.Role.TheVariants.{Plain, Version, WithinCode, WithinData, Choice, CountOf}
 use Rattle.file_faults.specs.declared.fields.Field.{Field}
 use Rattle.file_faults.specs.declared.fields.Field.TheVariants as fields
-use Rattle.file_faults.specs.declared.fields.HeaderField.{HeaderField}
-use Rattle.file_faults.specs.declared.fields.HeaderField.TheVariants as headers
-use Rattle.file_faults.specs.declared.fields.ProcedureField.{ProcedureField}
-use Rattle.file_faults.specs.declared.fields.ProcedureField.TheVariants as procedures
-use Rattle.file_faults.specs.declared.fields.ParameterField.{ParameterField}
-use Rattle.file_faults.specs.declared.fields.ParameterField.TheVariants as parameters
-use Rattle.file_faults.specs.declared.fields.LabelField.{LabelField}
-use Rattle.file_faults.specs.declared.fields.LabelField.TheVariants as labels
-use Rattle.file_faults.specs.declared.fields.EntryField.{EntryField}
-use Rattle.file_faults.specs.declared.fields.EntryField.TheVariants as entries
-use Rattle.file_faults.specs.declared.fields.FactField.{FactField}
-use Rattle.file_faults.specs.declared.fields.FactField.TheVariants as facts
-use Rattle.file_faults.specs.declared.fields.ParField.{ParField}
-use Rattle.file_faults.specs.declared.fields.ParField.TheVariants as pars
-use Rattle.file_faults.specs.declared.fields.ChannelField.{ChannelField}
-use Rattle.file_faults.specs.declared.fields.ChannelField.TheVariants as channels
-use Rattle.file_faults.specs.declared.fields.BranchField.{BranchField}
-use Rattle.file_faults.specs.declared.fields.BranchField.TheVariants as branches
-use Rattle.file_faults.specs.declared.fields.ListField.{ListField}
-use Rattle.file_faults.specs.declared.fields.ListField.TheVariants as lists
-use Rattle.file_faults.specs.declared.fields.TableField.{TableField}
-use Rattle.file_faults.specs.declared.fields.TableField.TheVariants as tables
+use Rattle.file_faults.specs.declared.fields.FieldRecord as fields_of_code
+use Rattle.file_faults.specs.declared.fields.GroupRecord as groups_of_code
 
--- ---- before the code
+-- ---- fields
 
--- how many bytes it has
-unfoldable pub header_width : HeaderField → Width
-header_width headers.Budget = Eight
-header_width field = Four
+-- what a field is: its number, its name, what is wanted of it, what it is for, and the field after it
+pub record FieldRecord : Type 0 where
+  pub number : Number
+  pub name : Text
+  pub wanted : Text
+  pub role : Role
+  pub next : Field
 
--- its name
-unfoldable pub header_name : HeaderField → Text
-header_name headers.Magic = codes "magic"
-header_name headers.CodeSize = codes "bytes of code"
-header_name headers.ConstantsSize = codes "bytes of constants"
-header_name headers.DataWords = codes "words of the data area"
-header_name headers.Base = codes "base"
-header_name headers.Budget = codes "budget"
-header_name headers.Finish = codes "finish"
-header_name headers.LinkLength = codes "length"
-header_name headers.Procedures = codes "number of procedure rows"
-header_name headers.Labels = codes "number of label rows"
-header_name headers.Pars = codes "number of PAR rows"
-header_name headers.Flag = codes "flag"
-header_name headers.Tables = codes "number of table rows"
+-- a record of the code says the same
+abbrev pub IsField : fields_of_code.FieldRecord → FieldRecord → Type 0
+IsField r s =
+    (r.number ≡ s.number) × (r.name.now ≡ s.name) × (r.wanted.now ≡ s.wanted) × (r.role ≡ s.role)
+    × (r.next ≡ s.next)
 
--- what is wanted of it
-unfoldable pub header_wanted : HeaderField → Text
-header_wanted headers.Magic = codes "TPM1 or TPM2"
-header_wanted headers.CodeSize = codes "at least 1"
-header_wanted headers.DataWords = codes "at least 1"
-header_wanted headers.Base = codes "at most the words of the data area"
-header_wanted headers.Finish = codes "at most the bytes of code"
-header_wanted headers.Flag = codes "0 or 1"
-header_wanted field = codes "another number"
+abbrev pub field : Number → String → String → Role → Field → FieldRecord
+field number name wanted role next =
+    record { number = number; name = codes name; wanted = codes wanted; role = role; next = next }
 
--- it has a sign
-unfoldable pub header_is_signed : HeaderField → Bool
-header_is_signed headers.Magic = false
-header_is_signed headers.CodeSize = false
-header_is_signed headers.ConstantsSize = false
-header_is_signed headers.DataWords = false
-header_is_signed headers.Base = false
-header_is_signed headers.Budget = false
-header_is_signed headers.Finish = false
-header_is_signed headers.LinkLength = false
-header_is_signed headers.Procedures = false
-header_is_signed headers.Labels = false
-header_is_signed headers.Pars = false
-header_is_signed headers.Flag = false
-header_is_signed headers.Tables = false
+-- one of which words do not say what is wanted
+abbrev pub plain : Number → String → Role → Field → FieldRecord
+plain number name role next = field number name "another number" role next
 
--- ---- of a procedure row
+-- those of a PAR row, or the end
+unfoldable pub branch_field : Field → FieldRecord
+branch_field fields.ParContext = field Short "context" "a context that is before its branches" Plain fields.ParDepth
+branch_field fields.ParDepth = plain SignedWord "depth" Plain fields.ParBlock
+branch_field fields.ParBlock = field SignedWord "block" "words of the frame" Plain fields.ParSuccessor
+branch_field fields.ParSuccessor =
+    field Word "successor" "an offset in the code that is not its first" WithinCode fields.Channels
+branch_field fields.Channels = plain Short "channels" (CountOf groups.Channels) fields.Branches
+branch_field fields.Branches =
+    field Short "branches" "at least 1" (CountOf groups.Branches) (fields.First groups.Channels)
+branch_field fields.ChannelWord = field SignedWord "word" "a word of the frame" Plain fields.ChannelLength
+branch_field fields.ChannelLength = field Word "length" "at least 1" Plain fields.Next
+branch_field fields.BranchEntry =
+    field Word "entry" "an offset in the code that is not its first, and that of no other branch"
+    WithinCode fields.BranchWorkspace
+branch_field fields.BranchWorkspace = field SignedWord "workspace" "a word of the frame" Plain fields.Writes
+branch_field fields.Writes = plain Short "written" (CountOf groups.Writes) fields.Reads
+branch_field fields.Reads = plain Short "read" (CountOf groups.Reads) fields.WrittenParameters
+branch_field fields.WrittenParameters =
+    plain Short "written parameters" (CountOf groups.WrittenParameters) fields.ReadParameters
+branch_field fields.ReadParameters = plain Short "read parameters" (CountOf groups.ReadParameters) fields.Ends
+branch_field fields.Ends = plain Short "ends" (CountOf groups.Ends) (fields.First groups.Writes)
+branch_field fields.WordsLo = field SignedWord "lo" "words of the frame" Plain fields.WordsHi
+branch_field fields.WordsHi = field SignedWord "hi" "above lo" Plain fields.Next
+branch_field fields.ParameterNumber = field Short "number" "a parameter that is there" Plain fields.Next
+branch_field fields.EndKind = field Byte "kind" "0 to 2" Plain fields.EndNumber
+branch_field fields.EndNumber = field SignedWord "number" "a channel that is there" Plain fields.EndElement
+branch_field fields.EndElement =
+    field Word "element" "0, but of a parameter one of its channels" Plain fields.EndDirection
+branch_field fields.EndDirection = field Byte "direction" "1 (in) or 2 (out)" Plain fields.Next
+branch_field f = field Nothing "end" "nothing" Plain fields.End
 
--- how many bytes it has
-unfoldable pub procedure_width : ProcedureField → Width
-procedure_width procedures.Number = Eight
-procedure_width procedures.Parameters = Two
-procedure_width field = Four
+-- those of a label row, or else of a PAR row
+unfoldable pub label_field : Field → FieldRecord
+label_field fields.LabelOffset =
+    field Word "offset" "an offset in the code that is neither its first nor the entry of a procedure"
+    WithinCode fields.LabelContext
+label_field fields.LabelContext = field Short "context" "a context that is there" Plain fields.LabelDepth
+label_field fields.LabelDepth = plain SignedWord "depth" Plain fields.LabelNumber
+label_field fields.LabelNumber = plain Long "number" Plain (fields.First groups.Registers)
+label_field fields.Entries = plain Short "entries" (CountOf groups.Entries) (fields.First groups.Entries)
+label_field fields.EntryWord = field SignedWord "word" "words of the frame" Plain fields.EntrySpan
+label_field fields.EntrySpan = field Word "span" "at least 1" Plain fields.FactTag
+label_field fields.FactTag =
+    field Byte "tag" "0 to 3; of an entry 1 to 3, 4 for two words or 5 for one" Choice fields.OfTag
+label_field fields.FactRegion = field Short "region" "a region that is there" Plain fields.RegionLo
+label_field fields.RegionLo = plain SignedWord "lo" Plain fields.RegionHi
+label_field fields.RegionHi = field SignedWord "hi" "at least lo" Plain fields.RegionStep
+label_field fields.RegionStep = field Byte "step" "1, or 4 where lo and hi are multiples of 4" Plain fields.Next
+label_field fields.FactOffset = field Word "offset" "at most the bytes of code" WithinCode fields.Next
+label_field fields.FactBase = plain SignedWord "base" Plain fields.FactTurns
+label_field fields.FactTurns = field Word "count" "at least 1, with a last index that is a word" Plain fields.FactWeight
+label_field fields.FactWeight = plain Long "weight" Plain fields.Next
+label_field f = branch_field f
 
--- its name
-unfoldable pub procedure_name : ProcedureField → Text
-procedure_name procedures.Entry = codes "entry"
-procedure_name procedures.Lo = codes "lo"
-procedure_name procedures.Hi = codes "hi"
-procedure_name procedures.Number = codes "number"
-procedure_name procedures.Parameters = codes "parameters"
+-- those of a procedure row, or else of a label row
+unfoldable pub procedure_field : Field → FieldRecord
+procedure_field fields.ProcedureEntry =
+    field Word "entry" "an offset in the code that is not its first" WithinCode fields.ProcedureLo
+procedure_field fields.ProcedureLo = field SignedWord "lo" "from -16384 to 0" Plain fields.ProcedureHi
+procedure_field fields.ProcedureHi = field SignedWord "hi" "from 4 to 16384" Plain fields.ProcedureNumber
+procedure_field fields.ProcedureNumber = plain Long "number" Plain fields.Parameters
+procedure_field fields.Parameters =
+    plain Short "parameters" (CountOf groups.Parameters) (fields.First groups.Parameters)
+procedure_field fields.ParameterWord = field Short "word" "from 1 to below hi" Plain fields.ParameterKind
+procedure_field fields.ParameterKind = field Byte "kind" "0 to 3" Choice fields.OfKind
+procedure_field fields.ParameterSize = field Word "size" "a multiple of 4, at least 4" Plain fields.RangeOrNext
+procedure_field fields.ChannelCount = field Word "count" "at least 1" Plain fields.ParameterLength
+procedure_field fields.ParameterLength = field Word "length" "at least 1" Plain fields.ParameterEnds
+procedure_field fields.ParameterEnds = field Byte "ends" "1 (in), 2 (out) or 3 (both)" Plain fields.Next
+procedure_field fields.Lo = plain SignedWord "lo" Plain fields.Hi
+procedure_field fields.Hi = field SignedWord "hi" "at least lo" Plain fields.Next
+procedure_field f = label_field f
 
--- what is wanted of it
-unfoldable pub procedure_wanted : ProcedureField → Text
-procedure_wanted procedures.Entry = codes "an offset in the code that is not its first"
-procedure_wanted procedures.Lo = codes "from -16384 to 0"
-procedure_wanted procedures.Hi = codes "from 4 to 16384"
-procedure_wanted field = codes "another number"
+-- any field: those before the rows and of a table row, or else of a procedure row
+unfoldable pub field_of : Field → FieldRecord
+field_of fields.Magic = field Word "magic" "TPM1 or TPM2" Version fields.CodeSize
+field_of fields.CodeSize = field Word "bytes of code" "at least 1" roles.CodeSize fields.ConstantsSize
+field_of fields.ConstantsSize = plain Word "bytes of constants" roles.ConstantsSize fields.DataWords
+field_of fields.DataWords = field Word "words of the data area" "at least 1" roles.DataWords fields.Base
+field_of fields.Base = field Word "base" "at most the words of the data area" WithinData fields.Budget
+field_of fields.Budget = plain Long "budget" roles.Budget fields.Finish
+field_of fields.Finish = field Word "finish" "at most the bytes of code" WithinCode (fields.First groups.Links)
+field_of fields.LinkLength = plain Word "length" Plain fields.Next
+field_of fields.ProcedureRows = plain Word "number of procedure rows" (CountOf groups.Procedures) fields.LabelRows
+field_of fields.LabelRows = plain Word "number of label rows" (CountOf groups.Labels) fields.ParRows
+field_of fields.ParRows = plain Word "number of PAR rows" (CountOf groups.Pars) fields.FlagOrCode
+field_of fields.Flag = field Word "flag" "0 or 1" Plain fields.TableRows
+field_of fields.TableRows = plain Word "number of table rows" (CountOf groups.Tables) fields.Code
+field_of fields.Code = field CodeBytes "code" "other bytes" Plain fields.Constants
+field_of fields.Constants = field ConstantBytes "constants" "other bytes" Plain (fields.First groups.Procedures)
+field_of fields.TableStart = field Word "start" "a multiple of 4" Plain fields.TableEnd
+field_of fields.TableEnd =
+    field Word "end" "a multiple of 4 above start, at most the bytes of constants" Plain fields.TableLo
+field_of fields.TableLo = field SignedWord "lo" "a range that has all words of the table" Plain fields.Hi
+field_of f = procedure_field f
 
--- it has a sign
-unfoldable pub procedure_is_signed : ProcedureField → Bool
-procedure_is_signed procedures.Lo = true
-procedure_is_signed procedures.Hi = true
-procedure_is_signed field = false
+-- ---- groups
 
--- ---- of a parameter
+-- what a group is: the words before a number, the group around it, its first field, and the field after its last one
+pub record GroupRecord : Type 0 where
+  pub words : Text
+  pub outer : Group
+  pub first : Field
+  pub after : Field
 
--- how many bytes it has
-unfoldable pub parameter_width : ParameterField → Width
-parameter_width parameters.Word = Two
-parameter_width parameters.Kind = One
-parameter_width parameters.Ends = One
-parameter_width field = Four
+-- a record of the code says the same
+abbrev pub IsGroup : groups_of_code.GroupRecord → GroupRecord → Type 0
+IsGroup r s = (r.words.now ≡ s.words) × (r.outer ≡ s.outer) × (r.first ≡ s.first) × (r.after ≡ s.after)
 
--- its name
-unfoldable pub parameter_name : ParameterField → Text
-parameter_name parameters.Word = codes "word"
-parameter_name parameters.Kind = codes "kind"
-parameter_name parameters.Lo = codes "lo"
-parameter_name parameters.Hi = codes "hi"
-parameter_name parameters.Size = codes "size"
-parameter_name parameters.RegionLo = codes "lo"
-parameter_name parameters.RegionHi = codes "hi"
-parameter_name parameters.Channels = codes "count"
-parameter_name parameters.Length = codes "length"
-parameter_name parameters.Ends = codes "ends"
+abbrev pub group : String → Group → Field → Field → GroupRecord
+group words outer first after = record { words = codes words; outer = outer; first = first; after = after }
 
--- what is wanted of it
-unfoldable pub parameter_wanted : ParameterField → Text
-parameter_wanted parameters.Word = codes "from 1 to below hi"
-parameter_wanted parameters.Kind = codes "0 to 3"
-parameter_wanted parameters.Hi = codes "at least lo"
-parameter_wanted parameters.Size = codes "a multiple of 4, at least 4"
-parameter_wanted parameters.RegionHi = codes "at least lo"
-parameter_wanted parameters.Channels = codes "at least 1"
-parameter_wanted parameters.Length = codes "at least 1"
-parameter_wanted parameters.Ends = codes "1 (in), 2 (out) or 3 (both)"
-parameter_wanted field = codes "another number"
-
--- it has a sign
-unfoldable pub parameter_is_signed : ParameterField → Bool
-parameter_is_signed parameters.Lo = true
-parameter_is_signed parameters.Hi = true
-parameter_is_signed parameters.RegionLo = true
-parameter_is_signed parameters.RegionHi = true
-parameter_is_signed field = false
-
--- ---- of a label row
-
--- how many bytes it has
-unfoldable pub label_width : LabelField → Width
-label_width labels.Context = Two
-label_width labels.Number = Eight
-label_width labels.Entries = Two
-label_width field = Four
-
--- its name
-unfoldable pub label_name : LabelField → Text
-label_name labels.Offset = codes "offset"
-label_name labels.Context = codes "context"
-label_name labels.Depth = codes "depth"
-label_name labels.Number = codes "number"
-label_name labels.Entries = codes "entries"
-
--- what is wanted of it
-unfoldable pub label_wanted : LabelField → Text
-label_wanted labels.Offset = codes "an offset in the code that is neither its first nor the entry of a procedure"
-label_wanted labels.Context = codes "a context that is there"
-label_wanted field = codes "another number"
-
--- it has a sign
-unfoldable pub label_is_signed : LabelField → Bool
-label_is_signed labels.Depth = true
-label_is_signed field = false
-
--- ---- of an entry, before its fact
-
--- how many bytes it has
-unfoldable pub entry_width : EntryField → Width
-entry_width entries.Word = Four
-entry_width entries.Span = Four
-
--- its name
-unfoldable pub entry_name : EntryField → Text
-entry_name entries.Word = codes "word"
-entry_name entries.Span = codes "span"
-
--- what is wanted of it
-unfoldable pub entry_wanted : EntryField → Text
-entry_wanted entries.Word = codes "words of the frame"
-entry_wanted entries.Span = codes "at least 1"
-
--- it has a sign
-unfoldable pub entry_is_signed : EntryField → Bool
-entry_is_signed entries.Word = true
-entry_is_signed field = false
-
--- ---- of a fact
-
--- how many bytes it has
-unfoldable pub fact_width : FactField → Width
-fact_width facts.Tag = One
-fact_width facts.Region = Two
-fact_width facts.Step = One
-fact_width facts.Weight = Eight
-fact_width field = Four
-
--- its name
-unfoldable pub fact_name : FactField → Text
-fact_name facts.Tag = codes "tag"
-fact_name facts.Lo = codes "lo"
-fact_name facts.Hi = codes "hi"
-fact_name facts.Region = codes "region"
-fact_name facts.First = codes "lo"
-fact_name facts.Last = codes "hi"
-fact_name facts.Step = codes "step"
-fact_name facts.Offset = codes "offset"
-fact_name facts.Base = codes "base"
-fact_name facts.Turns = codes "count"
-fact_name facts.Weight = codes "weight"
-
--- what is wanted of it
-unfoldable pub fact_wanted : FactField → Text
-fact_wanted facts.Tag = codes "0 to 3; of an entry 1 to 3, 4 for two words or 5 for one"
-fact_wanted facts.Hi = codes "at least lo"
-fact_wanted facts.Region = codes "a region that is there"
-fact_wanted facts.Last = codes "at least lo"
-fact_wanted facts.Step = codes "1, or 4 where lo and hi are multiples of 4"
-fact_wanted facts.Offset = codes "at most the bytes of code"
-fact_wanted facts.Turns = codes "at least 1, with a last index that is a word"
-fact_wanted field = codes "another number"
-
--- it has a sign
-unfoldable pub fact_is_signed : FactField → Bool
-fact_is_signed facts.Lo = true
-fact_is_signed facts.Hi = true
-fact_is_signed facts.First = true
-fact_is_signed facts.Last = true
-fact_is_signed facts.Base = true
-fact_is_signed field = false
-
--- ---- of a PAR row
-
--- how many bytes it has
-unfoldable pub par_width : ParField → Width
-par_width pars.Depth = Four
-par_width pars.Block = Four
-par_width pars.Successor = Four
-par_width field = Two
-
--- its name
-unfoldable pub par_name : ParField → Text
-par_name pars.Context = codes "context"
-par_name pars.Depth = codes "depth"
-par_name pars.Block = codes "block"
-par_name pars.Successor = codes "successor"
-par_name pars.Channels = codes "channels"
-par_name pars.Branches = codes "branches"
-
--- what is wanted of it
-unfoldable pub par_wanted : ParField → Text
-par_wanted pars.Context = codes "a context that is before its branches"
-par_wanted pars.Block = codes "words of the frame"
-par_wanted pars.Successor = codes "an offset in the code that is not its first"
-par_wanted pars.Branches = codes "at least 1"
-par_wanted field = codes "another number"
-
--- it has a sign
-unfoldable pub par_is_signed : ParField → Bool
-par_is_signed pars.Depth = true
-par_is_signed pars.Block = true
-par_is_signed field = false
-
--- ---- of a channel
-
--- how many bytes it has
-unfoldable pub channel_width : ChannelField → Width
-channel_width channels.Word = Four
-channel_width channels.Length = Four
-
--- its name
-unfoldable pub channel_name : ChannelField → Text
-channel_name channels.Word = codes "word"
-channel_name channels.Length = codes "length"
-
--- what is wanted of it
-unfoldable pub channel_wanted : ChannelField → Text
-channel_wanted channels.Word = codes "a word of the frame"
-channel_wanted channels.Length = codes "at least 1"
-
--- it has a sign
-unfoldable pub channel_is_signed : ChannelField → Bool
-channel_is_signed channels.Word = true
-channel_is_signed field = false
-
--- ---- of a branch, before its lists
-
--- how many bytes it has
-unfoldable pub branch_width : BranchField → Width
-branch_width branches.Entry = Four
-branch_width branches.Workspace = Four
-branch_width field = Two
-
--- its name
-unfoldable pub branch_name : BranchField → Text
-branch_name branches.Entry = codes "entry"
-branch_name branches.Workspace = codes "workspace"
-branch_name branches.Writes = codes "written"
-branch_name branches.Reads = codes "read"
-branch_name branches.WrittenParameters = codes "written parameters"
-branch_name branches.ReadParameters = codes "read parameters"
-branch_name branches.Ends = codes "ends"
-
--- what is wanted of it
-unfoldable pub branch_wanted : BranchField → Text
-branch_wanted branches.Entry = codes "an offset in the code that is not its first, and that of no other branch"
-branch_wanted branches.Workspace = codes "a word of the frame"
-branch_wanted field = codes "another number"
-
--- it has a sign
-unfoldable pub branch_is_signed : BranchField → Bool
-branch_is_signed branches.Workspace = true
-branch_is_signed field = false
-
--- ---- of a list of a branch
-
--- how many bytes it has
-unfoldable pub list_width : ListField → Width
-list_width lists.WrittenParameter = Two
-list_width lists.ReadParameter = Two
-list_width lists.EndKind = One
-list_width lists.EndDirection = One
-list_width field = Four
-
--- its name
-unfoldable pub list_name : ListField → Text
-list_name lists.WritesLo = codes "lo"
-list_name lists.WritesHi = codes "hi"
-list_name lists.ReadsLo = codes "lo"
-list_name lists.ReadsHi = codes "hi"
-list_name lists.WrittenParameter = codes "number"
-list_name lists.ReadParameter = codes "number"
-list_name lists.EndKind = codes "kind"
-list_name lists.EndNumber = codes "number"
-list_name lists.EndElement = codes "element"
-list_name lists.EndDirection = codes "direction"
-
--- what is wanted of it
-unfoldable pub list_wanted : ListField → Text
-list_wanted lists.WritesLo = codes "words of the frame"
-list_wanted lists.WritesHi = codes "above lo"
-list_wanted lists.ReadsLo = codes "words of the frame"
-list_wanted lists.ReadsHi = codes "above lo"
-list_wanted lists.WrittenParameter = codes "a parameter that is there"
-list_wanted lists.ReadParameter = codes "a parameter that is there"
-list_wanted lists.EndKind = codes "0 to 2"
-list_wanted lists.EndNumber = codes "a channel that is there"
-list_wanted lists.EndElement = codes "0, but of a parameter one of its channels"
-list_wanted lists.EndDirection = codes "1 (in) or 2 (out)"
-
--- it has a sign
-unfoldable pub list_is_signed : ListField → Bool
-list_is_signed lists.WritesLo = true
-list_is_signed lists.WritesHi = true
-list_is_signed lists.ReadsLo = true
-list_is_signed lists.ReadsHi = true
-list_is_signed lists.EndNumber = true
-list_is_signed field = false
-
--- ---- of a table row
-
--- how many bytes it has
-unfoldable pub table_width : TableField → Width
-table_width tables.Start = Four
-table_width tables.End = Four
-table_width tables.Lo = Four
-table_width tables.Hi = Four
-
--- its name
-unfoldable pub table_name : TableField → Text
-table_name tables.Start = codes "start"
-table_name tables.End = codes "end"
-table_name tables.Lo = codes "lo"
-table_name tables.Hi = codes "hi"
-
--- what is wanted of it
-unfoldable pub table_wanted : TableField → Text
-table_wanted tables.Start = codes "a multiple of 4"
-table_wanted tables.End = codes "a multiple of 4 above start, at most the bytes of constants"
-table_wanted tables.Lo = codes "a range that has all words of the table"
-table_wanted tables.Hi = codes "at least lo"
-
--- it has a sign
-unfoldable pub table_is_signed : TableField → Bool
-table_is_signed tables.Lo = true
-table_is_signed tables.Hi = true
-table_is_signed field = false
-
--- ---- any
-
--- how many bytes the number has that is read there
-unfoldable pub width_of : Field → Width
-width_of (fields.Header field) = header_width field
-width_of (fields.Procedure field) = procedure_width field
-width_of (fields.Parameter field) = parameter_width field
-width_of (fields.Label field) = label_width field
-width_of (fields.Entry field) = entry_width field
-width_of (fields.Fact field) = fact_width field
-width_of (fields.Par field) = par_width field
-width_of (fields.Channel field) = channel_width field
-width_of (fields.Branch field) = branch_width field
-width_of (fields.List field) = list_width field
-width_of (fields.Table field) = table_width field
-width_of fields.Code = One
-width_of fields.Constants = One
-width_of fields.End = One
-
--- its name
-unfoldable pub name_of : Field → Text
-name_of (fields.Header field) = header_name field
-name_of (fields.Procedure field) = procedure_name field
-name_of (fields.Parameter field) = parameter_name field
-name_of (fields.Label field) = label_name field
-name_of (fields.Entry field) = entry_name field
-name_of (fields.Fact field) = fact_name field
-name_of (fields.Par field) = par_name field
-name_of (fields.Channel field) = channel_name field
-name_of (fields.Branch field) = branch_name field
-name_of (fields.List field) = list_name field
-name_of (fields.Table field) = table_name field
-name_of fields.Code = codes "code"
-name_of fields.Constants = codes "constants"
-name_of fields.End = codes "end"
-
--- what is wanted of it
-unfoldable pub wanted_of : Field → Text
-wanted_of (fields.Header field) = header_wanted field
-wanted_of (fields.Procedure field) = procedure_wanted field
-wanted_of (fields.Parameter field) = parameter_wanted field
-wanted_of (fields.Label field) = label_wanted field
-wanted_of (fields.Entry field) = entry_wanted field
-wanted_of (fields.Fact field) = fact_wanted field
-wanted_of (fields.Par field) = par_wanted field
-wanted_of (fields.Channel field) = channel_wanted field
-wanted_of (fields.Branch field) = branch_wanted field
-wanted_of (fields.List field) = list_wanted field
-wanted_of (fields.Table field) = table_wanted field
-wanted_of fields.Code = codes "other bytes"
-wanted_of fields.Constants = codes "other bytes"
-wanted_of fields.End = codes "nothing"
-
--- the number there has a sign
-unfoldable pub is_signed : Field → Bool
-is_signed (fields.Header field) = header_is_signed field
-is_signed (fields.Procedure field) = procedure_is_signed field
-is_signed (fields.Parameter field) = parameter_is_signed field
-is_signed (fields.Label field) = label_is_signed field
-is_signed (fields.Entry field) = entry_is_signed field
-is_signed (fields.Fact field) = fact_is_signed field
-is_signed (fields.Par field) = par_is_signed field
-is_signed (fields.Channel field) = channel_is_signed field
-is_signed (fields.Branch field) = branch_is_signed field
-is_signed (fields.List field) = list_is_signed field
-is_signed (fields.Table field) = table_is_signed field
-is_signed fields.Code = false
-is_signed fields.Constants = false
-is_signed fields.End = false
+unfoldable pub group_of : Group → GroupRecord
+group_of groups.File = group "" groups.File fields.Magic fields.End
+group_of groups.Links = group "link " groups.File fields.LinkLength fields.ProcedureRows
+group_of groups.Procedures = group "procedure row " groups.File fields.ProcedureEntry (fields.First groups.Labels)
+group_of groups.Parameters = group "parameter " groups.Procedures fields.ParameterWord fields.Next
+group_of groups.Labels = group "label row " groups.File fields.LabelOffset (fields.First groups.Pars)
+group_of groups.Registers = group "" groups.Labels fields.FactTag fields.Entries
+group_of groups.Entries = group "entry " groups.Labels fields.EntryWord fields.Next
+group_of groups.Pars = group "PAR row " groups.File fields.ParContext (fields.First groups.Tables)
+group_of groups.Channels = group "channel " groups.Pars fields.ChannelWord (fields.First groups.Branches)
+group_of groups.Branches = group "branch " groups.Pars fields.BranchEntry fields.Next
+group_of groups.Writes = group "written words " groups.Branches fields.WordsLo (fields.First groups.Reads)
+group_of groups.Reads = group "read words " groups.Branches fields.WordsLo (fields.First groups.WrittenParameters)
+group_of groups.WrittenParameters =
+    group "written parameter " groups.Branches fields.ParameterNumber (fields.First groups.ReadParameters)
+group_of groups.ReadParameters =
+    group "read parameter " groups.Branches fields.ParameterNumber (fields.First groups.Ends)
+group_of groups.Ends = group "end " groups.Branches fields.EndKind fields.Next
+group_of groups.Tables = group "table row " groups.File fields.TableStart fields.End

@@ -1,15 +1,10 @@
 //! Why a file is no module.
 
 ghost use Rattle.std.specs.Prelude.{◌≡◌, ◌++◌, OnOk, string_bytes};
-ghost use Rattle.file_faults.specs.FileFaults.{code_limit, code_text, data_text, ended_text, ended_words, field_text};
-ghost use Rattle.file_faults.specs.FileFaults.{file_fault, has_text, header_limit, is_of_code, is_of_data, left_text};
-ghost use Rattle.file_faults.specs.FileFaults.{limit_of, limit_text, most_text, order_text, order_words, range_text};
-ghost use Rattle.file_faults.specs.FileFaults.{sizes_text, wanted_text, why};
+ghost use Rattle.file_faults.specs.FileFaults.{ended_text, field_text, file_fault, has_text, left_text, limit_of};
+ghost use Rattle.file_faults.specs.FileFaults.{limit_text, order_text, range_text, size_text, why, words_of};
 
-use crate::fields::{
-    BranchField, FactField, Field, HeaderField, LabelField, ParField, ProcedureField, name_of,
-    wanted_of,
-};
+use crate::fields::{Group, Role, field_of};
 use crate::names::{push_place, push_value};
 use crate::walking::{Found, found_at, value_at};
 use crate::walks::Walk;
@@ -20,44 +15,37 @@ use module_format::{
 };
 use std::alloc::AllocError;
 
-/// The limit of the bytes of code.
-fn code_limit(is_two: bool) -> u64
-    ensures { result ≡ code_limit is_two }
-{
-    if is_two {
-        return u64::from(MAX_LONG_CODE);
-    }
-    u64::from(MAX_CODE)
-}
-
-/// The limit of a number before the code.
-#[tactic(auto, unfolding(crate::specs::FileFaults::header_limit))]
-fn header_limit(walk: Walk, field: HeaderField) -> u64
-    ensures { result ≡ header_limit walk field }
-{
-    match field {
-        HeaderField::CodeSize => code_limit(walk.is_two),
-        HeaderField::ConstantsSize => u64::from(MAX_CONSTANTS),
-        HeaderField::DataWords => u64::from(MAX_DATA_WORDS),
-        HeaderField::Budget => MAX_BUDGET,
-        HeaderField::Procedures => u64::from(MAX_PROCEDURES),
-        HeaderField::Labels => u64::from(MAX_LABELS),
-        HeaderField::Pars => u64::from(MAX_PARS),
-        HeaderField::Tables => u64::from(MAX_TABLES),
-        _ => u64::from(MAX_MESSAGE),
-    }
-}
-
 /// The limit of a number.
-#[tactic(auto, unfolding(crate::specs::FileFaults::limit_of))]
-fn limit_of(walk: Walk, field: Field) -> u64
-    ensures { result ≡ limit_of walk field }
+fn limit_of(is_two: bool, role: Role) -> u64
+    ensures { result ≡ limit_of is_two role }
 {
-    match field {
-        Field::Header(field) => header_limit(walk, field),
-        Field::Procedure(ProcedureField::Parameters) => u64::from(MAX_PARAMETERS),
-        Field::Par(ParField::Branches) => u64::from(MAX_BRANCHES),
+    match role {
+        Role::CodeSize if is_two => u64::from(MAX_LONG_CODE),
+        Role::CodeSize => u64::from(MAX_CODE),
+        Role::ConstantsSize => u64::from(MAX_CONSTANTS),
+        Role::DataWords => u64::from(MAX_DATA_WORDS),
+        Role::Budget => MAX_BUDGET,
+        Role::CountOf(Group::Procedures) => u64::from(MAX_PROCEDURES),
+        Role::CountOf(Group::Parameters) => u64::from(MAX_PARAMETERS),
+        Role::CountOf(Group::Labels) => u64::from(MAX_LABELS),
+        Role::CountOf(Group::Pars) => u64::from(MAX_PARS),
+        Role::CountOf(Group::Branches) => u64::from(MAX_BRANCHES),
+        Role::CountOf(Group::Tables) => u64::from(MAX_TABLES),
         _ => u64::from(MAX_MESSAGE),
+    }
+}
+
+/// The words of a fault by its number, which stand before, after or without its field.
+#[tactic(auto, unfolding(crate::specs::FileFaults::words_of))]
+fn words_of(number: u8) -> &'static str
+    ensures { result.now ≡ words_of number }
+{
+    match number {
+        MAGIC => "the file begins with neither TPM1 nor TPM2",
+        TRUNCATED => "the file ends within ",
+        ORDER => ", and has to come after what is before it",
+        LIMIT => ", and its limit is ",
+        _ => "memory ran out",
     }
 }
 
@@ -66,9 +54,8 @@ fn limit_of(walk: Walk, field: Field) -> u64
 fn push_field(text: &mut String, walk: Walk) -> Result<(), AllocError>
     ensures { OnOk result (string_bytes text.new ≡ string_bytes text.old ++ field_text walk) }
 {
-    push_place(text, walk, walk.field)?;
-    text.push_str(name_of(walk.field))?;
-    Ok(())
+    push_place(text, walk)?;
+    text.push_str(field_of(walk.field).name)
 }
 
 /// Appends the same, and what it has.
@@ -78,24 +65,7 @@ fn push_has(text: &mut String, walk: Walk, value: u64) -> Result<(), AllocError>
 {
     push_field(text, walk)?;
     text.push_str(" is ")?;
-    push_value(text, walk.field, value)?;
-    Ok(())
-}
-
-/// The words before the field in which a file ends.
-#[tactic(auto, unfolding(crate::specs::FileFaults::ended_words))]
-fn ended_words() -> &'static str
-    ensures { result.now ≡ ended_words }
-{
-    "the file ends within "
-}
-
-/// The words after a field that does not come after what is before it.
-#[tactic(auto, unfolding(crate::specs::FileFaults::order_words))]
-fn order_words() -> &'static str
-    ensures { result.now ≡ order_words }
-{
-    ", and has to come after what is before it"
+    push_value(text, field_of(walk.field).number, value)
 }
 
 /// Appends in which field a file ends.
@@ -103,9 +73,8 @@ fn order_words() -> &'static str
 fn push_ended(text: &mut String, walk: Walk) -> Result<(), AllocError>
     ensures { OnOk result (string_bytes text.new ≡ string_bytes text.old ++ ended_text walk) }
 {
-    text.push_str(ended_words())?;
-    push_field(text, walk)?;
-    Ok(())
+    text.push_str(words_of(TRUNCATED))?;
+    push_field(text, walk)
 }
 
 /// Appends which field does not come after what is before it.
@@ -114,94 +83,31 @@ fn push_order(text: &mut String, walk: Walk, value: u64) -> Result<(), AllocErro
     ensures { OnOk result (string_bytes text.new ≡ string_bytes text.old ++ order_text walk value) }
 {
     push_has(text, walk, value)?;
-    text.push_str(order_words())?;
-    Ok(())
+    text.push_str(words_of(ORDER))
 }
 
-/// Whether a field is an offset in the code.
-#[tactic(auto, unfolding(crate::specs::FileFaults::is_of_code))]
-fn is_of_code(field: Field) -> bool
-    ensures { result ≡ is_of_code field }
+/// Appends how large the code or the data area is, if a number has to be within it.
+#[tactic(auto, unfolding(crate::specs::FileFaults::size_text))]
+fn push_size(text: &mut String, role: Role, code: u64, words: u64) -> Result<(), AllocError>
+    ensures { OnOk result (string_bytes text.new ≡ string_bytes text.old ++ size_text role code words) }
 {
-    match field {
-        Field::Header(HeaderField::Finish) => true,
-        Field::Procedure(ProcedureField::Entry) => true,
-        Field::Label(LabelField::Offset) => true,
-        Field::Fact(FactField::Offset) => true,
-        Field::Par(ParField::Successor) => true,
-        Field::Branch(BranchField::Entry) => true,
-        _ => false,
+    match role {
+        Role::WithinCode => write!(text, ", and the code has {code} bytes"),
+        Role::WithinData => write!(text, ", and the data area has {words} words"),
+        _ => text.push_str(""),
     }
 }
 
-/// Whether a field is the base.
-#[tactic(auto, unfolding(crate::specs::FileFaults::is_of_data))]
-fn is_of_data(field: Field) -> bool
-    ensures { result ≡ is_of_data field }
-{
-    match field {
-        Field::Header(HeaderField::Base) => true,
-        _ => false,
-    }
-}
-
-/// Appends how many bytes of code there are.
-#[tactic(auto, unfolding(crate::specs::FileFaults::code_text))]
-fn push_code(text: &mut String, count: u64) -> Result<(), AllocError>
-    ensures { OnOk result (string_bytes text.new ≡ string_bytes text.old ++ code_text count) }
-{
-    write!(text, ", and the code has {count} bytes")
-}
-
-/// Appends how many words of data there are.
-#[tactic(auto, unfolding(crate::specs::FileFaults::data_text))]
-fn push_data(text: &mut String, count: u64) -> Result<(), AllocError>
-    ensures { OnOk result (string_bytes text.new ≡ string_bytes text.old ++ data_text count) }
-{
-    write!(text, ", and the data area has {count} words")
-}
-
-/// Appends the same, where a field asks it.
-#[tactic(auto, unfolding(crate::specs::FileFaults::sizes_text))]
-fn push_sizes(text: &mut String, walk: Walk) -> Result<(), AllocError>
-    ensures { OnOk result (string_bytes text.new ≡ string_bytes text.old ++ sizes_text walk) }
-{
-    if is_of_code(walk.field) {
-        return push_code(text, walk.code);
-    }
-    if is_of_data(walk.field) {
-        return push_data(text, walk.data_words);
-    }
-    text.push_str("")
-}
-
-/// Appends what is wanted of a field.
-#[tactic(auto, unfolding(crate::specs::FileFaults::wanted_text))]
-fn push_wanted(text: &mut String, walk: Walk) -> Result<(), AllocError>
-    ensures { OnOk result (string_bytes text.new ≡ string_bytes text.old ++ wanted_text walk) }
-{
-    text.push_str("; wanted: ")?;
-    text.push_str(wanted_of(walk.field))?;
-    push_sizes(text, walk)?;
-    Ok(())
-}
-
-/// Appends which field has a value that may not be there.
+/// Appends which field has a value that may not be there, and what is wanted of it.
 #[tactic(auto, unfolding(crate::specs::FileFaults::range_text))]
 fn push_range(text: &mut String, walk: Walk, value: u64) -> Result<(), AllocError>
     ensures { OnOk result (string_bytes text.new ≡ string_bytes text.old ++ range_text walk value) }
 {
+    let field = field_of(walk.field);
     push_has(text, walk, value)?;
-    push_wanted(text, walk)?;
-    Ok(())
-}
-
-/// Appends what a limit is.
-#[tactic(auto, unfolding(crate::specs::FileFaults::most_text))]
-fn push_most(text: &mut String, limit: u64) -> Result<(), AllocError>
-    ensures { OnOk result (string_bytes text.new ≡ string_bytes text.old ++ most_text limit) }
-{
-    write!(text, ", and its limit is {limit}")
+    text.push_str("; wanted: ")?;
+    text.push_str(field.wanted)?;
+    push_size(text, field.role, walk.code, walk.data_words)
 }
 
 /// Appends which field is above its limit.
@@ -209,9 +115,10 @@ fn push_most(text: &mut String, limit: u64) -> Result<(), AllocError>
 fn push_limit(text: &mut String, walk: Walk, value: u64) -> Result<(), AllocError>
     ensures { OnOk result (string_bytes text.new ≡ string_bytes text.old ++ limit_text walk value) }
 {
+    let limit = limit_of(walk.is_two, field_of(walk.field).role);
     push_has(text, walk, value)?;
-    push_most(text, limit_of(walk, walk.field))?;
-    Ok(())
+    text.push_str(words_of(LIMIT))?;
+    write!(text, "{limit}")
 }
 
 /// Appends how many bytes come after the last row.
@@ -234,9 +141,6 @@ fn push_why(
 {
     let walk = found.walk;
     let value = value_at(bytes, found);
-    if fault.number == MAGIC {
-        return text.push_str("the file begins with neither TPM1 nor TPM2");
-    }
     if fault.number == TRUNCATED {
         return push_ended(text, walk);
     }
@@ -252,7 +156,7 @@ fn push_why(
     if fault.number == LIMIT {
         return push_limit(text, walk, value);
     }
-    text.push_str("memory ran out")
+    text.push_str(words_of(fault.number))
 }
 
 /// Appends why a file is no module, which has this fault.
