@@ -9,9 +9,7 @@ TPM = os.path.join(CRATES, "tpm", "out", "tpm")
 
 # The calls that are repeated, and the programs that repeat them.
 CALLS = {
-    "file_conformance": ("read", "write", "apply", "slice", "pick"),
-    "machine_conformance": ("verify", "replay"),
-    "runner_conformance": ("run",),
+    "machine_conformance": ("read", "write", "verify", "apply", "slice", "pick", "replay", "run"),
     "language_conformance": ("lines", "parse", "check"),
 }
 PROGRAM_OF = {call: crate for crate, calls in CALLS.items() for call in calls}

@@ -1,8 +1,16 @@
 //! Asks the layers what statements ask of a file or a module.
 
-use crate::altered_verdicts::altered_verdicts;
+use crate::altered_modules::judge_modules;
+use crate::altered_runs::Runs;
+use crate::altered_verdicts::Verdicts;
+use crate::explaining::sentence;
+use crate::following::follow;
+use crate::lookups::look_up;
+use crate::reporting::report;
 use crate::running::{replayed, run};
 use crate::setting::Setting;
+use crate::stepping::step;
+use crate::sums::{altered_sums, cuts};
 use crate::upgrading::{NotUpgraded, put_upgraded, upgraded};
 use crate::verdicts::verdict;
 use certificate::Module;
@@ -24,7 +32,11 @@ fn ask_module<'a>(
         "verify" => verdict(alloc, module, rest, out),
         "then" => run(alloc, module, setting, rest, out),
         "replay" => replayed(alloc, module, setting.events.as_str(), rest, out),
-        _ => Outcome::Unreadable,
+        "report" | "wrote" | "calls" | "failing" => report(alloc, module, setting, statement, out),
+        "explain" => sentence(alloc, module, rest, out),
+        "step" => step(alloc, module, setting.process.as_str(), rest, out),
+        "follow" => follow(alloc, module, setting.state.as_str(), rest, out),
+        name => look_up(module, name, rest, out),
     }
 }
 
@@ -61,7 +73,26 @@ fn ask_file(alloc: Global, setting: &Setting, statement: Statement, out: &mut An
     }
 }
 
-/// What is asked of the verdicts on the files with a byte altered: `FROM TO = ANSWER`.
+/// What is asked of the files that a file becomes in these ways: how many are read, or what their runs or the verdicts
+/// on them come to.
+fn ask_altered(
+    alloc: Global,
+    setting: &mut Setting,
+    word: &str,
+    ways: Ways,
+    expected: &str,
+    out: &mut Answer,
+) -> Outcome {
+    match word {
+        "run_bits" | "run_bytes" => judge_modules(alloc, setting, ways, Runs::NONE, expected, out),
+        "judge_bits" | "judge_bytes" => {
+            judge_modules(alloc, setting, ways, Verdicts::NONE, expected, out)
+        }
+        _ => altered_sums(alloc, setting.file.bytes_mut(), ways, expected, out),
+    }
+}
+
+/// What is asked of the files with a byte altered: `FROM TO = ANSWER`.
 fn ask_bytes(
     alloc: Global,
     setting: &mut Setting,
@@ -74,19 +105,24 @@ fn ask_bytes(
     if !words.is_read() || to as usize > setting.file.bytes().len() {
         return Outcome::Unreadable;
     }
-    altered_verdicts(alloc, setting, Ways::Bytes { from, to }, expected, out)
+    let ways = Ways::Bytes { from, to };
+    ask_altered(alloc, setting, statement.word, ways, expected, out)
 }
 
 /// What is asked of a file, and else of a module.
 fn ask(alloc: Global, setting: &mut Setting, statement: Statement, out: &mut Answer) -> Outcome {
-    match statement.word {
+    let Statement { word, rest, .. } = statement;
+    match word {
         "read" => put_read(alloc, setting.file.bytes(), out),
-        "judge_bits" => return altered_verdicts(alloc, setting, Ways::Bits, statement.rest, out),
-        "judge_bytes" => return ask_bytes(alloc, setting, statement, out),
+        "cuts" => cuts(alloc, setting.file.bytes(), out),
         "upgrade" => put_upgraded(alloc, setting.file.bytes(), out),
+        "bits" | "run_bits" | "judge_bits" => {
+            return ask_altered(alloc, setting, word, Ways::Bits, rest, out);
+        }
+        "bytes" | "run_bytes" | "judge_bytes" => return ask_bytes(alloc, setting, statement, out),
         _ => return ask_file(alloc, setting, statement, out),
     }
-    judged(out, statement.rest)
+    judged(out, rest)
 }
 
 impl Subject for Setting {

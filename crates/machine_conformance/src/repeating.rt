@@ -1,94 +1,45 @@
-//! The calls that are repeated on a module.
+//! The calls that are repeated: on a file, on its module, on a machine, and on runs.
 
-use accepted_runs::{Run, replay};
+use crate::repeated_events::{PICK, SLICE, STEP, load_and_apply};
+use crate::repeated_runs::{replay_repeatedly, run_repeatedly};
 use certificate::Module;
 use conformance::{Calls, Failure, mixed, refusal};
-use machine_state::{Effect, Event, Link};
-use module_format::MEMORY;
+use module_format::{MEMORY, write};
 use std::alloc::Global;
-use verifier::{Verified, verify};
+use verifier::verify;
 
-/// One byte of the running process.
-const STEP: Event = Event::Step {
-    slice: false,
-    pick: 0,
-};
-
-/// What comes on link 0.
-const BYTE: u8 = 1;
-
-/// The event that follows in the first-in first-out run, if one does: the next byte of the running process, or else a
-/// byte on link 0, which some process waits for.
-fn next_event(run: &Run) -> Option<Event> {
-    if run.running() {
-        Some(STEP)
-    } else if run.wants(Link::Zero) {
-        Some(Event::Arrive {
-            link: Link::Zero,
-            byte: BYTE,
-        })
-    } else {
-        None
-    }
+/// A checksum with the budget and the number of rows in it.
+fn summed(checksum: u64, module: &Module) -> u64 {
+    let tables = module.tables();
+    let rows = tables.procedures.len() + tables.labels.len() + tables.pars.len();
+    mixed(
+        mixed(checksum, tables.budget),
+        (rows + tables.table_rows.len()) as u64,
+    )
 }
 
-/// Lets an event happen, and returns the one that follows, which acknowledges a message.
-fn follow(run: &mut Run, event: Event) -> Option<Event> {
-    if let Effect::Emitted { link, .. } = run.apply(event) {
-        return Some(Event::Acknowledge { link });
-    }
-    next_event(run)
-}
-
-/// Appends the events of a run that is loaded. `false` if memory runs out.
-fn add_events(events: &mut Vec<Event>, run: &mut Run) -> bool {
-    let mut next = Some(STEP);
-    for _ in 0..u64::MAX {
-        let Some(event) = next else {
-            break;
-        };
-        if events.push(event).is_err() {
-            return false;
-        }
-        next = follow(run, event);
-    }
-    true
-}
-
-/// Appends the events of the run of an accepted module. `false` if memory runs out.
-fn add_events_of(alloc: Global, verified: &Verified, events: &mut Vec<Event>) -> bool {
-    match Run::load(alloc, verified) {
-        Ok(mut run) => add_events(events, &mut run),
-        Err(_) => false,
-    }
-}
-
-/// The bytes executed and the bytes that went out on link 0.
-fn replay_events(
-    alloc: Global,
-    verified: &Verified,
-    events: &[Event],
-    times: u64,
-) -> Result<u64, Failure> {
+/// The budgets and the numbers of rows.
+fn read_repeatedly(alloc: Global, file: &[u8], times: u64) -> Result<u64, Failure> {
     let mut checksum = 0;
     for _ in 0..times {
-        match replay(alloc, verified, events) {
-            Ok(replay) => {
-                checksum = mixed(mixed(checksum, replay.executed), replay.out[0].len() as u64);
-            }
-            Err(_) => return Err(Failure::Memory),
+        match Module::read(alloc, file) {
+            Ok(module) => checksum = summed(checksum, &module),
+            Err(fault) => return Err(refusal(fault.number, MEMORY)),
         }
     }
     Ok(checksum)
 }
 
-/// The same, of the first-in first-out run of an accepted module.
-fn replay_repeatedly(alloc: Global, verified: &Verified, times: u64) -> Result<u64, Failure> {
-    let mut events = Vec::new(alloc);
-    if !add_events_of(alloc, verified, &mut events) {
-        return Err(Failure::Memory);
+/// The lengths of the written files.
+fn write_repeatedly(alloc: Global, module: &Module, times: u64) -> Result<u64, Failure> {
+    let mut checksum = 0;
+    for _ in 0..times {
+        match write(alloc, module.tables()) {
+            Ok(written) => checksum = mixed(checksum, written.len() as u64),
+            Err(_) => return Err(Failure::Memory),
+        }
     }
-    replay_events(alloc, verified, &events, times)
+    Ok(checksum)
 }
 
 /// The budgets.
@@ -103,11 +54,27 @@ fn verify_repeatedly(alloc: Global, module: &Module, times: u64) -> Result<u64, 
     Ok(checksum)
 }
 
-/// Repeats `replay` on a module, if it is accepted.
-fn verify_and_replay(alloc: Global, module: &Module, times: u64) -> Result<u64, Failure> {
+/// Repeats `replay` or `run` on a module, if it is accepted.
+fn repeat_run(alloc: Global, name: &str, module: &Module, times: u64) -> Result<u64, Failure> {
     match verify(alloc, module) {
-        Ok(verified) => replay_repeatedly(alloc, &verified, times),
+        Ok(verified) => match name {
+            "replay" => replay_repeatedly(alloc, &verified, times),
+            _ => run_repeatedly(alloc, &verified, times),
+        },
         Err(refused) => Err(refusal(refused.number, states::MEMORY)),
+    }
+}
+
+/// Repeats the call of this name on a module.
+fn repeat_on(alloc: Global, name: &str, module: &Module, times: u64) -> Result<u64, Failure> {
+    match name {
+        "write" => write_repeatedly(alloc, module, times),
+        "verify" => verify_repeatedly(alloc, module, times),
+        "apply" => load_and_apply(alloc, module, STEP, times),
+        "slice" => load_and_apply(alloc, module, SLICE, times),
+        "pick" => load_and_apply(alloc, module, PICK, times),
+        "replay" | "run" => repeat_run(alloc, name, module, times),
+        _ => Err(Failure::Unknown),
     }
 }
 
@@ -116,12 +83,11 @@ pub(crate) struct Repeated;
 
 impl Calls for Repeated {
     fn repeat(alloc: Global, name: &str, bytes: &[u8], times: u64) -> Result<u64, Failure> {
+        if name == "read" {
+            return read_repeatedly(alloc, bytes, times);
+        }
         match Module::read(alloc, bytes) {
-            Ok(module) => match name {
-                "verify" => verify_repeatedly(alloc, &module, times),
-                "replay" => verify_and_replay(alloc, &module, times),
-                _ => Err(Failure::Unknown),
-            },
+            Ok(module) => repeat_on(alloc, name, &module, times),
             Err(fault) => Err(refusal(fault.number, MEMORY)),
         }
     }

@@ -13,7 +13,7 @@ use verifier::{Verified, verify};
 
 /// How a run went so far.
 #[derive(Clone, Copy)]
-struct Course {
+struct Progress {
     /// What the last event did, if that is not what the word for it says.
     differing: Option<&'static str>,
     fault: Option<Fault>,
@@ -21,24 +21,24 @@ struct Course {
 }
 
 /// Lets an event happen, and compares what it did with a word.
-fn one_event(machine: &mut Checked, event: Event, expected: &str, course: &mut Course) {
+fn one_event(machine: &mut Checked, event: Event, expected: &str, progress: &mut Progress) {
     match machine.apply(event) {
         Ok(effect) if names_effect(expected, effect) => {}
-        Ok(effect) => course.differing = Some(letter(effect)),
+        Ok(effect) => progress.differing = Some(letter(effect)),
         Err(Stop::Fault(fault)) => {
-            let is_another = course.fault.is_some() && course.fault != Some(fault);
-            course.fault = Some(fault);
+            let is_another = progress.fault.is_some() && progress.fault != Some(fault);
+            progress.fault = Some(fault);
             if expected != "F" || is_another {
-                course.differing = Some("F");
+                progress.differing = Some("F");
             }
         }
-        Err(Stop::Memory) => course.outcome = Outcome::OutOfMemory,
+        Err(Stop::Memory) => progress.outcome = Outcome::OutOfMemory,
     }
 }
 
 /// Lets the events happen up to the first that does not do what is expected.
-fn all_events(machine: &mut Checked, setting: &Setting) -> Course {
-    let mut course = Course {
+fn all_events(machine: &mut Checked, setting: &Setting) -> Progress {
+    let mut progress = Progress {
         differing: None,
         fault: None,
         outcome: Outcome::Held,
@@ -50,23 +50,21 @@ fn all_events(machine: &mut Checked, setting: &Setting) -> Course {
             break;
         };
         match event(word) {
-            Some(event) => one_event(machine, event, effects.word(), &mut course),
-            None => course.outcome = Outcome::Unreadable,
+            Some(event) => one_event(machine, event, effects.word(), &mut progress),
+            None => progress.outcome = Outcome::Unreadable,
         }
-        if course.differing.is_some() || course.outcome != Outcome::Held {
+        if progress.differing.is_some() || progress.outcome != Outcome::Held {
             break;
         }
     }
-    course
+    progress
 }
 
-/// The fault as a case says it.
-fn put_fault(fault: Option<Fault>, out: &mut Answer) {
-    if let Some(fault) = fault {
-        out.fault("F", fault.number, fault.process);
-        out.put(" ");
-        out.number(i64::from(fault.offset));
-    }
+/// A fault of a process as a case says it.
+pub(crate) fn put_process_fault(fault: Fault, out: &mut Answer) {
+    out.fault("F", fault.number, fault.process);
+    out.put(" ");
+    out.number(i64::from(fault.offset));
 }
 
 /// The answers to the four questions.
@@ -96,15 +94,17 @@ fn judge_run(
     expected: &str,
     out: &mut Answer,
 ) -> Outcome {
-    let course = all_events(machine, setting);
-    put_fault(course.fault, out);
-    if course.outcome != Outcome::Held {
-        return course.outcome;
+    let progress = all_events(machine, setting);
+    if let Some(fault) = progress.fault {
+        put_process_fault(fault, out);
+    }
+    if progress.outcome != Outcome::Held {
+        return progress.outcome;
     }
     if out.as_str() != setting.fault.as_str() {
         return Outcome::Differs;
     }
-    match course.differing {
+    match progress.differing {
         Some(letter) => {
             out.put(letter);
             out.put(" in place of what an event should do");

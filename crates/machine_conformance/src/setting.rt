@@ -1,17 +1,27 @@
 //! What the statements before a question say.
 
+use crate::calls::Failing;
+use crate::links::are_links;
 use conformance::{Outcome, Statement};
 use module_cases::CaseFile;
 use std::alloc::Global;
 
-/// What is asked about: a file and a run.
+/// What is asked about: a file, and a run of its module, a process in it, or a state of it.
 #[derive(Drop)]
 pub(crate) struct Setting {
     pub(crate) alloc: Global,
     pub(crate) file: CaseFile,
+    /// The events of a run, what each of them does, and the fault that is reported.
     pub(crate) events: String,
     pub(crate) effects: String,
     pub(crate) fault: String,
+    /// A process before an instruction.
+    pub(crate) process: String,
+    /// What is known before an instruction.
+    pub(crate) state: String,
+    /// What the links of a run are given, and which call of their readers and writers fails.
+    pub(crate) links: String,
+    pub(crate) failing: Option<Failing>,
 }
 
 impl Setting {
@@ -22,6 +32,10 @@ impl Setting {
             events: String::new(alloc),
             effects: String::new(alloc),
             fault: String::new(alloc),
+            process: String::new(alloc),
+            state: String::new(alloc),
+            links: String::new(alloc),
+            failing: None,
         }
     }
 
@@ -32,6 +46,10 @@ impl Setting {
             "run" => self.begin_run(rest),
             "did" => keep(&mut self.effects, rest),
             "fault" => keep(&mut self.fault, rest),
+            "process" => keep(&mut self.process, rest),
+            "state" => keep(&mut self.state, rest),
+            "links" => self.give(rest),
+            "fail" => self.fail(rest),
             _ => return self.file.take(statement),
         };
         Some(Outcome::set(is_read))
@@ -41,6 +59,17 @@ impl Setting {
         self.effects.clear();
         self.fault.clear();
         keep(&mut self.events, events)
+    }
+
+    /// Gives something to the links, and no call fails.
+    fn give(&mut self, links: &str) -> bool {
+        self.failing = None;
+        are_links(self.alloc, links) && keep(&mut self.links, links)
+    }
+
+    fn fail(&mut self, text: &str) -> bool {
+        self.failing = Failing::of(text);
+        self.failing.is_some()
     }
 }
 
