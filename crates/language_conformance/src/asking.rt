@@ -1,85 +1,46 @@
-//! Runs the layers on a source, as statements ask.
+//! Takes the statements of cases: those that ask go to what they ask about.
 
+use crate::layers::ask_source;
+use crate::modules::{ask_compiler, ask_module};
 use crate::reasons::{ask_program, ask_reason};
 use crate::setting::Setting;
-use crate::tokens::write_lines;
-use crate::trees::write_items;
-use conformance::{Answer, Outcome, Statement, Subject, judged, unindented};
-use occam_layout::{Line, lines};
-use occam_parser::{Item, Program, parse};
+use conformance::{Answer, Outcome, Statement, Subject};
 use std::alloc::Global;
-use usage_checks::check;
 
-/// Whether a text has these lines.
-pub(crate) fn has_lines(text: &str, block: &[&str]) -> bool {
-    let mut lines = block.iter();
-    for found in text.lines() {
-        match lines.next() {
-            Some(line) if unindented(line) == found => {}
-            _ => return false,
-        }
+/// How a file says a statement within a comment of occam.
+const SPOKEN: &str = "-->";
+
+/// The statement within a comment of occam, or else the statement itself.
+fn spoken<'l, 't>(statement: Statement<'l, 't>) -> Statement<'l, 't> {
+    if statement.word != SPOKEN {
+        return statement;
     }
-    lines.next().is_none()
-}
-
-/// What comes of the lines of a source: how many there are, or the tokens of each.
-fn judge_lines(found: &[Line], statement: Statement, out: &mut Answer) -> Outcome {
-    if statement.block.is_empty() {
-        out.put("ok ");
-        out.great(found.len() as u64);
-        return judged(out, statement.rest);
-    }
-    write_lines(out, found);
-    Outcome::of(has_lines(out.as_str(), statement.block))
-}
-
-/// What comes of the items of a program: `ok`, or `same` if they are printed back as their source, or their lines as
-/// they are printed back.
-fn judge_items(items: &[Item], source: &[u8], statement: Statement, out: &mut Answer) -> Outcome {
-    write_items(out, items);
-    match statement.rest {
-        "ok" => Outcome::Held,
-        "same" => Outcome::of(out.as_str().as_bytes() == source),
-        _ => Outcome::of(has_lines(out.as_str(), statement.block)),
+    let (word, rest) = statement
+        .rest
+        .split_once(' ')
+        .unwrap_or((statement.rest, ""));
+    Statement {
+        line: statement.line,
+        word,
+        rest,
+        block: &[],
     }
 }
 
-/// Whether a program breaks no usage rule: `ok`, or the rule and its line.
-fn judge_usage(alloc: Global, program: Program, statement: Statement, out: &mut Answer) -> Outcome {
-    match check(alloc, program) {
-        Ok(_) => out.put("ok"),
-        Err(fault) => out.fault("O", fault.number, u64::from(fault.line)),
-    }
-    judged(out, statement.rest)
-}
-
-/// The program of the lines of a source, or the fault.
-fn judge_program(
-    alloc: Global,
-    rows: &[Line],
-    source: &[u8],
-    statement: Statement,
-    out: &mut Answer,
-) -> Outcome {
-    match parse(alloc, rows) {
-        Ok(program) if statement.word == "check" => judge_usage(alloc, program, statement, out),
-        Ok(program) => judge_items(program.items(), source, statement, out),
-        Err(fault) => {
-            out.fault("O", fault.number, u64::from(fault.line));
-            judged(out, statement.rest)
-        }
-    }
-}
-
-/// What is asked of the lines of a source, of its program, or of the usage rules.
-fn ask_source(alloc: Global, source: &[u8], statement: Statement, out: &mut Answer) -> Outcome {
-    match lines(alloc, source) {
-        Ok(rows) if statement.word == "lines" => judge_lines(&rows, statement, out),
-        Ok(rows) => judge_program(alloc, &rows, source, statement, out),
-        Err(fault) => {
-            out.fault("O", fault.number, u64::from(fault.line));
-            judged(out, statement.rest)
-        }
+/// What is asked of the source, or of its module.
+fn ask(setting: &mut Setting, statement: Statement, out: &mut Answer) -> Outcome {
+    let (alloc, source) = (setting.alloc, setting.source.as_bytes());
+    match statement.word {
+        "lines" | "parse" | "check" => ask_source(alloc, source, statement, out),
+        "reason" => ask_reason(alloc, source, statement, out),
+        "limit" => ask_program(alloc, source, statement, None, out),
+        "known" => match statement.rest.parse() {
+            Ok(last) => ask_program(alloc, source, statement, Some(last), out),
+            Err(_) => Outcome::Unreadable,
+        },
+        "compiled" | "refused" => ask_compiler(setting, statement, out),
+        "budget" | "run" => ask_module(setting, statement, out),
+        _ => Outcome::Unreadable,
     }
 }
 
@@ -89,18 +50,10 @@ impl Subject for Setting {
     }
 
     fn perform(&mut self, statement: Statement, out: &mut Answer) -> Outcome {
-        if let Some(outcome) = self.take(statement) {
-            return outcome;
-        }
-        match statement.word {
-            "lines" | "parse" | "check" => ask_source(self.alloc, &self.source, statement, out),
-            "reason" => ask_reason(self.alloc, &self.source, statement, out),
-            "limit" => ask_program(self.alloc, &self.source, statement, None, out),
-            "known" => match statement.rest.parse() {
-                Ok(last) => ask_program(self.alloc, &self.source, statement, Some(last), out),
-                Err(_) => Outcome::Unreadable,
-            },
-            _ => Outcome::Unreadable,
+        let statement = spoken(statement);
+        match self.take(statement) {
+            Some(outcome) => outcome,
+            None => ask(self, statement, out),
         }
     }
 }

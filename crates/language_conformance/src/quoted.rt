@@ -10,19 +10,20 @@ fn digit(byte: u8) -> Option<u8> {
 }
 
 /// The byte of two hexadecimal digits.
-fn pair(high: u8, low: u8) -> Option<(u8, usize)> {
-    Some((digit(high)?.wrapping_mul(16) | digit(low)?, 4))
+pub(crate) fn pair(high: u8, low: u8) -> Option<u8> {
+    Some(digit(high)?.wrapping_mul(16) | digit(low)?)
 }
 
-/// The first character of a text in quotes, and how many bytes it takes: `\n` is a line feed, `\\` a backslash, and
-/// `\x` with two hexadecimal digits a byte.
-fn character(text: &[u8]) -> Option<(u8, usize)> {
+/// The first character of a text, and how many bytes it takes. A sign begins a spelling: with `n` a line feed, with `t`
+/// a tab, with `x` or `#` and two hexadecimal digits a byte, and with a quote or itself that character.
+fn character(sign: u8, text: &[u8]) -> Option<(u8, usize)> {
     match text {
-        [b'\\', b'n', ..] => Some((b'\n', 2)),
-        [b'\\', b'\\', ..] => Some((b'\\', 2)),
-        [b'\\', b'x', high, low, ..] => pair(*high, *low),
-        [b'\\', ..] | [] => None,
-        [byte, ..] => Some((*byte, 1)),
+        [first, ..] if *first != sign => Some((*first, 1)),
+        [_, b'n', ..] => Some((b'\n', 2)),
+        [_, b't', ..] => Some((b'\t', 2)),
+        [_, b'x' | b'#', high, low, ..] => Some((pair(*high, *low)?, 4)),
+        [_, second, ..] if *second == sign || *second == b'"' => Some((*second, 2)),
+        _ => None,
     }
 }
 
@@ -31,23 +32,18 @@ fn within_quotes(line: &str) -> Option<&str> {
     line.strip_prefix('"')?.strip_suffix('"')
 }
 
-/// Appends the text between the quotes of a line. False where it cannot be read or memory runs out.
-pub(crate) fn append_quoted(out: &mut Vec<u8>, line: &str) -> bool {
-    let Some(text) = within_quotes(line) else {
-        return false;
-    };
+/// Appends the text between the quotes of a line, where this sign begins a spelling. None where it cannot be read or
+/// memory runs out.
+pub(crate) fn append_quoted(out: &mut Vec<u8>, sign: u8, line: &str) -> Option<()> {
+    let text = within_quotes(line)?;
     let mut rest = text.as_bytes();
     for _ in 0..text.len() {
         if rest.is_empty() {
             break;
         }
-        let Some((byte, taken)) = character(rest) else {
-            return false;
-        };
-        if out.push(byte).is_err() {
-            return false;
-        }
+        let (byte, taken) = character(sign, rest)?;
+        out.push(byte).ok()?;
         rest = rest.get(taken..).unwrap_or(&[]);
     }
-    true
+    Some(())
 }

@@ -1,6 +1,6 @@
 //! What is written of a source that is refused or known, as statements ask.
 
-use crate::asking::has_lines;
+use crate::layers::has_lines;
 use conformance::{Answer, Outcome, Statement, judged};
 use known_lines::known_lines;
 use limit_reasons::{limit_excess, limit_text};

@@ -1,95 +1,50 @@
 //! What the statements before a question say.
 
-use crate::quoted::append_quoted;
-use conformance::{Outcome, Statement, unindented};
+use crate::given::Given;
+use crate::source::Source;
+use crate::values::bytes_of;
+use conformance::{Outcome, Statement};
 use std::alloc::Global;
 
-/// What is asked about: a source.
+/// What is asked about: a source, its module, and what the links are given in the next run.
 #[derive(Drop)]
 pub(crate) struct Setting {
     pub(crate) alloc: Global,
-    pub(crate) source: Vec<u8>,
-    /// Whether the present statement cannot be read, or memory ran out.
-    is_wrong: bool,
+    pub(crate) source: Source,
+    /// The file of the module, empty before the source is compiled and where it is refused.
+    pub(crate) module: Vec<u8>,
+    pub(crate) given: Given,
 }
 
 impl Setting {
     pub(crate) fn new(alloc: Global) -> Self {
         Setting {
             alloc,
-            source: Vec::new(alloc),
-            is_wrong: false,
+            source: Source::new(alloc),
+            module: Vec::new(alloc),
+            given: Given::new(),
         }
     }
 
     /// Takes a statement that asks nothing; any other is left.
     pub(crate) fn take(&mut self, statement: Statement) -> Option<Outcome> {
-        let rest = statement.rest;
-        self.is_wrong = false;
+        if let Some(is_read) = self.source.take(statement) {
+            self.module.clear();
+            return Some(Outcome::set(is_read));
+        }
         match statement.word {
-            "source" => self.begin_source(rest, statement.block),
-            "repeat" => self.repeat(rest),
-            "levels" => self.descend(rest),
-            _ => return None,
-        }
-        Some(Outcome::set(!self.is_wrong))
-    }
-
-    /// Appends to the source.
-    fn append(&mut self, bytes: &[u8]) {
-        self.is_wrong |= self.source.extend_from_slice(bytes).is_err();
-    }
-
-    /// Appends to the source `times` times.
-    fn append_times(&mut self, times: u32, bytes: &[u8]) {
-        for _ in 0..times {
-            self.append(bytes);
+            "--" => Some(Outcome::Set),
+            "in0" | "in1" | "in2" | "in3" | "out0" | "out1" | "out2" | "out3" => {
+                Some(Outcome::set(self.give(statement.word, statement.rest)))
+            }
+            _ => None,
         }
     }
 
-    fn begin_source(&mut self, rest: &str, block: &[&str]) {
-        self.source.clear();
-        if !rest.is_empty() {
-            self.is_wrong |= !append_quoted(&mut self.source, rest);
-            return;
-        }
-        for line in block {
-            self.append(unindented(line).as_bytes());
-            self.append(b"\n");
-        }
-    }
-
-    /// The number with which a text begins, and what follows it.
-    fn number<'t>(&mut self, text: &'t str) -> (u32, &'t str) {
-        let (digits, rest) = text.split_once(' ').unwrap_or((text, ""));
-        let number = digits.parse::<u32>().ok();
-        self.is_wrong |= number.is_none();
-        (number.unwrap_or(0), rest)
-    }
-
-    /// A text in quotes.
-    fn piece(&mut self, quoted: &str) -> Vec<u8> {
-        let mut piece = Vec::new(self.alloc);
-        self.is_wrong |= !append_quoted(&mut piece, quoted);
-        piece
-    }
-
-    /// Appends a text to the source several times: `TIMES "TEXT"`.
-    fn repeat(&mut self, rest: &str) {
-        let (times, quoted) = self.number(rest);
-        let piece = self.piece(quoted);
-        self.append_times(times, &piece);
-    }
-
-    /// Appends a text at each level of indentation from the first number up to the second, which is left out:
-    /// `FROM TO "TEXT"`.
-    fn descend(&mut self, rest: &str) {
-        let (from, rest) = self.number(rest);
-        let (to, quoted) = self.number(rest);
-        let piece = self.piece(quoted);
-        for level in from..to {
-            self.append_times(level, b"  ");
-            self.append(&piece);
+    fn give(&mut self, name: &str, said: &str) -> bool {
+        match bytes_of(self.alloc, said) {
+            Some(bytes) => self.given.give(name, bytes),
+            None => false,
         }
     }
 }

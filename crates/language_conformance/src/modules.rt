@@ -1,33 +1,13 @@
-//! Compiles the source of a case, and asks what comes of its module.
+//! Compiles a source, and asks what comes of its module, as statements ask.
 
 use crate::given::Given;
 use crate::running::judge_runs;
 use crate::setting::Setting;
 use certificate::Module;
 use compiler::compile;
-use conformance::{Answer, Outcome, Statement, Subject, judged};
+use conformance::{Answer, Outcome, Statement, judged};
 use std::alloc::Global;
 use verifier::verify;
-
-/// How a file says a statement within a comment of occam.
-const SPOKEN: &str = "-->";
-
-/// The statement within a comment of occam, or else the statement itself.
-fn spoken<'l, 't>(statement: Statement<'l, 't>) -> Statement<'l, 't> {
-    if statement.word != SPOKEN {
-        return statement;
-    }
-    let (word, rest) = statement
-        .rest
-        .split_once(' ')
-        .unwrap_or((statement.rest, ""));
-    Statement {
-        line: statement.line,
-        word,
-        rest,
-        block: &[],
-    }
-}
 
 /// Whether an answer, a word and what follows it, is this statement. `compiled` alone is right for any length.
 fn is_answer(answer: &str, statement: Statement) -> bool {
@@ -37,7 +17,11 @@ fn is_answer(answer: &str, statement: Statement) -> bool {
 }
 
 /// What comes of the source: `compiled` and the length of the module, or `refused` and the fault.
-fn ask_source(setting: &mut Setting, statement: Statement, out: &mut Answer) -> Outcome {
+pub(crate) fn ask_compiler(
+    setting: &mut Setting,
+    statement: Statement,
+    out: &mut Answer,
+) -> Outcome {
     setting.module.clear();
     match compile(setting.alloc, setting.source.as_bytes()) {
         Ok(module) => {
@@ -82,37 +66,12 @@ fn ask_file(
     }
 }
 
-/// What is asked of the source, or of its module.
-fn ask(setting: &mut Setting, statement: Statement, out: &mut Answer) -> Outcome {
-    match statement.word {
-        "compiled" | "refused" => ask_source(setting, statement, out),
-        "budget" => ask_file(
-            setting.alloc,
-            &setting.module,
-            &setting.given,
-            statement,
-            out,
-        ),
-        "run" => {
-            let given = &setting.given;
-            let outcome = ask_file(setting.alloc, &setting.module, given, statement, out);
-            setting.given = Given::new();
-            outcome
-        }
-        _ => Outcome::Unreadable,
+/// What is asked of the module of the source: its budget, or a run, which takes what the links were given.
+pub(crate) fn ask_module(setting: &mut Setting, statement: Statement, out: &mut Answer) -> Outcome {
+    let given = &setting.given;
+    let outcome = ask_file(setting.alloc, &setting.module, given, statement, out);
+    if statement.word == "run" {
+        setting.given = Given::new();
     }
-}
-
-impl Subject for Setting {
-    fn begin(alloc: Global) -> Self {
-        Setting::new(alloc)
-    }
-
-    fn perform(&mut self, statement: Statement, out: &mut Answer) -> Outcome {
-        let statement = spoken(statement);
-        match self.take(statement) {
-            Some(outcome) => outcome,
-            None => ask(self, statement, out),
-        }
-    }
+    outcome
 }
