@@ -8,7 +8,6 @@ use Rattle.file_faults.specs.declared.fields.Role.{Role}
 use Rattle.file_faults.specs.declared.fields.Role.TheVariants as roles
 use Rattle.file_faults.specs.declared.walks.Counts.{Counts}
 use Rattle.file_faults.specs.declared.walks.Walk.{Walk}
-use Rattle.file_faults.specs.declared.walks.TheConstants.{MAGIC_OF_TWO, TURNS}
 use Rattle.file_faults.specs.Fields.{field_of, group_of}
 
 -- ---- what is known
@@ -51,9 +50,9 @@ counted c groups.ReadParameters n = record c { read_parameters = n }
 counted c groups.Ends n = record c { ends = n }
 counted c groups.Tables n = record c { tables = n }
 
--- what the number of a field is for
+-- what the number of a field is for: the magic of version 2 is TPM2, as a number
 unfoldable pub noted : Walk → Role → ℕ → Walk
-noted w roles.Version value = record w { is_two = value == MAGIC_OF_TWO }
+noted w roles.Version value = record w { is_two = value == 843927636 }
 noted w roles.CodeSize value = record w { code = value }
 noted w roles.ConstantsSize value = record w { constants = value }
 noted w roles.DataWords value = record w { data_words = value }
@@ -98,6 +97,6 @@ abbrev pub turned : ℕ → Walk → Walk
 turned zero w = w
 turned (suc n) w = turn (turned n w) (turned n w).field
 
--- the field after the one that is here, which has this value
+-- the field after the one that is here, which has this value: more than 8 turns do not come between two fields
 unfoldable pub next_field : Walk → ℕ → Walk
-next_field w value = turned TURNS (at_field (noted w (field_of w.field).role value) (field_of w.field).next)
+next_field w value = turned 8 (at_field (noted w (field_of w.field).role value) (field_of w.field).next)
