@@ -23,7 +23,7 @@ use Rattle.world_laws.specs.Parked.{InWord, IsInside, IsSchedulingPlace}
 use Rattle.world_laws.proofs.KeptWords.{channel_words_are_blank}
 use Rattle.agreement.specs.Agrees as agree
 use Rattle.agreement.specs.Agrees.{PlainMachine, PlainInput, Agrees, arrival_of, workspace_in}
-use Rattle.agreement.proofs.ChannelWords.{channel_is_kept, channel_is_set, nobody_writes, owns_then}
+use Rattle.agreement.proofs.ChannelWords.{channel_is_kept, channel_is_set, nobody_writes, owns_on}
 use Rattle.agreement.proofs.Elsewhere.{Laws, Owns, laws_of, owns_of}
 use Rattle.agreement.proofs.Links.{input_is}
 use Rattle.agreement.proofs.Names.{word_by}
@@ -59,19 +59,11 @@ module _ (m : Contents) (es : List Event) (p : ℕ) (task : Task) (format : Keep
   laws = laws_of m es format
 
   owns : Owns v
-  owns = owns_then w v (owns_of m w laws) p task later here (record {
-    tasks = refl;
-    roles = refl;
-    channels = refl;
-    others = λ q differ runs. runs;
-    back = λ q differ runs. runs;
-    words = λ either x at. (laws.words p task (inr (record { here = here; inside = inside })) x
-        (subst (λ (a : ℕ). IsSchedulingPlace a x) workspace at)).own;
-    selections = λ later_disables x at. (laws.selections p task here (disables later_disables) x
-        (subst (λ (a : ℕ). InWord (place_of a) x) workspace at)).own;
-    waits = λ e waits runs.
-        let none : None ≡ Some e = sym (ap agree.waits_inside (condition ∙ ready)) ∙ waits in cc;
-  })
+  owns = owns_on w v (owns_of m w laws) p task later here refl refl refl (λ either x at.
+      (laws.words p task (inr (record { here = here; inside = inside })) x
+      (subst (λ (a : ℕ). IsSchedulingPlace a x) workspace at)).own) (λ later_disables x at.
+      (laws.selections p task here (disables later_disables) x (subst (λ (a : ℕ). InWord (place_of a) x) workspace at)).own)
+      refl (ap agree.waits_inside (condition ∙ ready))
 
   -- ---- a link
 

@@ -27,25 +27,34 @@ pub record SameEnabled (w after : World) (p : ℕ) : Type 0 where
   pub fewer : (address : ℕ) → EnablesAt after p address → EnablesAt w p address
   pub more : (address : ℕ) → EnablesAt w p address → EnablesAt after p address
 
--- where no channel and no link has changed
-pub enabled_as_before : (w after : World) (p : ℕ) → after.channels ≡ w.channels → after.links.inputs ≡ w.links.inputs
-    → SameEnabled w after p
-enabled_as_before w after p channels inputs = record {
+-- where the channels that it has enabled are in both, and no link has changed
+pub enabled_alike : (w after : World) (p : ℕ)
+    → ((k : ℕ) (c : Channel) → slice_get after.channels k ≡ Some (Some c) → c.enabled ≡ Some p
+    → slice_get w.channels k ≡ Some (Some c))
+    → ((k : ℕ) (c : Channel) → slice_get w.channels k ≡ Some (Some c) → c.enabled ≡ Some p
+    → slice_get after.channels k ≡ Some (Some c))
+    → after.links.inputs ≡ w.links.inputs → SameEnabled w after p
+enabled_alike w after p old new inputs = record {
   fewer = λ address enables. fewer address enables;
   more = λ address enables. more address enables;
 }
   where
     fewer : (address : ℕ) → EnablesAt after p address → EnablesAt w p address
-    fewer address (a_channel word c here is) =
-        a_channel word c (ap (λ cells. slice_get cells (cell_of address)) (sym channels) ∙ here) is
+    fewer address (a_channel word c here is) = a_channel word c (old (cell_of address) c here is) is
     fewer address (a_link k link at here is) =
         a_link k link at (ap (λ links. slice_get links k) (sym inputs) ∙ here) is
 
     more : (address : ℕ) → EnablesAt w p address → EnablesAt after p address
-    more address (a_channel word c here is) =
-        a_channel word c (ap (λ cells. slice_get cells (cell_of address)) channels ∙ here) is
+    more address (a_channel word c here is) = a_channel word c (new (cell_of address) c here is) is
     more address (a_link k link at here is) =
         a_link k link at (ap (λ links. slice_get links k) inputs ∙ here) is
+
+-- where no channel and no link has changed
+pub enabled_as_before : (w after : World) (p : ℕ) → after.channels ≡ w.channels → after.links.inputs ≡ w.links.inputs
+    → SameEnabled w after p
+enabled_as_before w after p channels inputs =
+    enabled_alike w after p (λ k c here is. ap (λ cells. slice_get cells k) (sym channels) ∙ here)
+    (λ k c here is. ap (λ cells. slice_get cells k) channels ∙ here) inputs
 
 -- the names of the guards have the same values in both memories
 abbrev pub SameValues : Memory → Memory → Activation → State → Type 0
@@ -129,16 +138,29 @@ alternates_on m w after p t u s next act old enabled values same fit exits ready
   ready = λ must. elim (ready must) [ inl is ↦ inl is | inr skip ↦ inr (skip_after values same skip) ];
 }
 
--- what is ready for it stays so where one other task, or one that sends nothing, has changed
-pub ready_on : (tasks : List Task) (cells : List (Option Channel)) (inputs : List InputLink) (p q : ℕ) (t u : Task)
-    → slice_get tasks q ≡ Some t → ((e : Exchange) → t.condition ≡ Sending e → ⊥) → HasReady tasks cells inputs p
-    → HasReady (slice_set tasks q u) cells inputs p
-ready_on tasks cells inputs p q t u here silent (a_byte k link byte at is kept) = a_byte k link byte at is kept
-ready_on tasks cells inputs p q t u here silent (a_sender k c r sender e at is waiting there sends) =
-    a_sender k c r sender e at is waiting (got_other tasks q r u other ∙ there) sends
+-- what is ready for it stays so where the channels that it has enabled are there, and each task but one that sends
+-- nothing
+pub ready_alike : (tasks now : List Task) (cells there : List (Option Channel)) (inputs : List InputLink) (p q : ℕ)
+    (t : Task) → slice_get tasks q ≡ Some t → ((e : Exchange) → t.condition ≡ Sending e → ⊥)
+    → ((k : ℕ) (c : Channel) → slice_get cells k ≡ Some (Some c) → c.enabled ≡ Some p
+    → slice_get there k ≡ Some (Some c))
+    → ((r : ℕ) (u : Task) → q ≢ r → slice_get tasks r ≡ Some u → slice_get now r ≡ Some u)
+    → HasReady tasks cells inputs p → HasReady now there inputs p
+ready_alike tasks now cells there inputs p q t here silent kept others (a_byte k link byte at is keeps) =
+    a_byte k link byte at is keeps
+ready_alike tasks now cells there inputs p q t here silent kept others (a_sender k c r sender e at is waiting has sends) =
+    a_sender k c r sender e (kept k c at is) is waiting (others r sender other has) sends
   where
     other : q ≢ r
     other same =
         silent e (ap (λ (x : Task). x.condition)
         (same_some (slice_get tasks r) t sender
-        (subst (λ (n : ℕ). slice_get tasks n ≡ Some t) same here) there) ∙ sends)
+        (subst (λ (n : ℕ). slice_get tasks n ≡ Some t) same here) has) ∙ sends)
+
+-- where one other task, or one that sends nothing, has changed
+pub ready_on : (tasks : List Task) (cells : List (Option Channel)) (inputs : List InputLink) (p q : ℕ) (t u : Task)
+    → slice_get tasks q ≡ Some t → ((e : Exchange) → t.condition ≡ Sending e → ⊥) → HasReady tasks cells inputs p
+    → HasReady (slice_set tasks q u) cells inputs p
+ready_on tasks cells inputs p q t u here silent =
+    ready_alike tasks (slice_set tasks q u) cells cells inputs p q t here silent (λ k c at is. at)
+    (λ r v other has. got_other tasks q r u other ∙ has)

@@ -13,7 +13,7 @@ use Rattle.machine_state.specs.Joins.{closed, closed_task, on_role, without_chan
 use Rattle.machine_state.specs.Moves.{cell_of}
 use Rattle.machine_state.specs.Ownership.{HoldersIn, owner_of}
 use Rattle.machine_state.specs.Roles.{own_in, without_join}
-use Rattle.machine_state.specs.Waiting.{IsGone, IsOver}
+use Rattle.machine_state.specs.Waiting.{IsOver}
 use Rattle.machine_state.specs.World.{World, Role, Join}
 use Rattle.machine_state.proofs.Holders.{outside_is_free}
 use Rattle.machine_state.proofs.Lines.{got_set, got_other, set_either}
@@ -28,9 +28,10 @@ use Rattle.certified_worlds.specs.Certified.{IsCertified}
 use Rattle.certified_worlds.specs.Invariant.{Process, Table, LengthAgrees, at_link, at_channel, LengthsAgree, Opener}
 use Rattle.certified_worlds.specs.Invariant.{Holds}
 use Rattle.certified_worlds.specs.Lives.{it_lives}
-use Rattle.certified_worlds.specs.Pending.{IsMember, StartsHere}
+use Rattle.certified_worlds.specs.Pending.{StartsHere}
 use Rattle.certified_worlds.specs.Point.{Began, Decodes}
 use Rattle.certified_worlds.proofs.DuesAreSplit.{total_set}
+use Rattle.certified_worlds.proofs.JoinChanges.{AreMembers}
 use Rattle.certified_worlds.proofs.JoinedOpeners.{opener_lives}
 use Rattle.certified_worlds.proofs.LivesAs.{LivesAs}
 use Rattle.certified_worlds.proofs.OrderlyWorlds.{OthersMeet}
@@ -170,11 +171,8 @@ module _ (m : Contents) (d : Decodes m) (wf : IsWellFormed m) (c : IsCertified m
       over = gone.over;
     }
 
-    members_closed : (q : ℕ) (par : Par) (layout : Layout)
-        → ((d : ℕ) (branch : Role) (first : Began) → slice_get w.roles d ≡ Some branch → branch.opener ≡ Some q
-        → (IsGone w.tasks branch d → ⊥) → slice_get h.began d ≡ Some first → IsMember m par layout first)
-        → (d : ℕ) (branch : Role) (first : Began) → slice_get after.roles d ≡ Some branch → branch.opener ≡ Some q
-        → (IsGone after.tasks branch d → ⊥) → slice_get h.began d ≡ Some first → IsMember m par layout first
+    members_closed : (q : ℕ) (par : Par) (layout : Layout) → AreMembers m w.tasks w.roles h.began q par layout
+        → AreMembers m after.tasks after.roles h.began q par layout
     members_closed q par layout old d branch first has by live begun =
         elim (set_either w.roles o (without_join role) d branch has) [
           | inl set ↦ old d role first (subst (λ (n : ℕ). slice_get w.roles n ≡ Some role) set.0 has_role)
@@ -235,17 +233,14 @@ module _ (m : Contents) (d : Decodes m) (wf : IsWellFormed m) (c : IsCertified m
     pub closed_holds : Holds m after
     closed_holds =
         let tasks = length-set w.tasks o (closed_task j par t) in
-        let begun = h.counted.begun in
-        let owing = h.counted.owing in
-        let waiting = h.counted.pending in
         record {
           dues = dues_after;
           pending_dues = pending_after;
           began = h.began;
           counted = record {
-            begun = omega (arith, tasks, begun);
-            owing = (let same = length-set h.dues o opener.due in omega (arith, tasks, owing, same));
-            pending = (let same = length-set h.pending_dues o 0 in omega (arith, tasks, waiting, same));
+            begun = omega (arith, tasks, h.counted.begun);
+            owing = omega (arith, tasks, h.counted.owing, length-set h.dues o opener.due);
+            pending = omega (arith, tasks, h.counted.pending, length-set h.pending_dues o 0);
           };
           table = table_closed;
           pending = openers_closed;

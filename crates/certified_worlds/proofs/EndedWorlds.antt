@@ -13,17 +13,17 @@ use Rattle.machine_state.specs.EnabledLaws.{Alternates}
 use Rattle.machine_state.specs.Holding.{Holding, has_end}
 use Rattle.machine_state.specs.Memory.{Memory}
 use Rattle.machine_state.specs.Roles.{with_join, without_own}
-use Rattle.machine_state.specs.Waiting.{IsGone}
 use Rattle.machine_state.specs.World.{World, Role, Join, Queue, held}
 use Rattle.machine_state.proofs.Lines.{got_set, got_other, set_either}
 use Rattle.rulings.specs.Meaning.{Layout, Activation}
 use Rattle.certified_worlds.specs.Invariant.{AlternatesIn, Process, Table, LengthsAgree, Opener, Holds}
 use Rattle.certified_worlds.specs.Lives.{Meets, it_lives, it_stopped, it_ended}
-use Rattle.certified_worlds.specs.Pending.{Pending, IsMember, StartsHere}
+use Rattle.certified_worlds.specs.Pending.{Pending, StartsHere}
 use Rattle.certified_worlds.specs.Point.{Began}
 use Rattle.certified_worlds.proofs.DuesAreSplit.{end_owes}
 use Rattle.certified_worlds.proofs.EndsKeepPars.{join_without, after_without}
 use Rattle.certified_worlds.proofs.OrderlyWorlds.{OthersMeet}
+use Rattle.certified_worlds.proofs.JoinChanges.{AreMembers}
 use Rattle.certified_worlds.proofs.StartedWorlds.{plain_beside}
 
 -- ---- a member has gone
@@ -227,11 +227,8 @@ module _ (m : Contents) (w : World) (h : Holds m w) (p : ℕ) (t : Task) (here :
     -- ---- each opener
 
     -- what was a member and is not gone is still one
-    members_reduced : (q : ℕ) (par : Par) (layout : Layout)
-        → ((d : ℕ) (branch : Role) (first : Began) → slice_get w.roles d ≡ Some branch → branch.opener ≡ Some q
-        → (IsGone w.tasks branch d → ⊥) → slice_get h.began d ≡ Some first → IsMember m par layout first)
-        → (d : ℕ) (branch : Role) (first : Began) → slice_get roles d ≡ Some branch → branch.opener ≡ Some q
-        → (IsGone after.tasks branch d → ⊥) → slice_get h.began d ≡ Some first → IsMember m par layout first
+    members_reduced : (q : ℕ) (par : Par) (layout : Layout) → AreMembers m w.tasks w.roles h.began q par layout
+        → AreMembers m after.tasks roles h.began q par layout
     members_reduced q par layout old d branch first has by live begun = elim (shown.reduces.now d branch has) [
       | of_opener same is ↦ old d opener_role first
           (subst (λ (n : ℕ). slice_get w.roles n ≡ Some opener_role) same shown.has_role)

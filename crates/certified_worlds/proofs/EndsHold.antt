@@ -26,16 +26,14 @@ use Rattle.machine_state.specs.Joins.{closed, ended, given_back, member_joined}
 use Rattle.machine_state.specs.Moves.{counted, dispatch, leave, picked}
 use Rattle.machine_state.specs.Ownership.{HoldersIn}
 use Rattle.machine_state.specs.Roles.{with_join, without_join, without_own}
-use Rattle.machine_state.specs.Site.{Local, Outcome, joins}
+use Rattle.machine_state.specs.Site.{Outcome, joins}
 use Rattle.machine_state.specs.Turn.{at_here}
 use Rattle.machine_state.specs.Waiting.{is_member, IsOver, IsGone}
 use Rattle.machine_state.specs.World.{World, Role, Join, Queue, held, holding_at}
 use Rattle.machine_state.proofs.Lines.{got_set, got_other, got_within, set_either, told_in}
 use Rattle.machine_state.proofs.Waiting.{has_role}
 use Rattle.machine_state.proofs.MovesLeaveAlone.{is_last, member_gone, joined_either, on_role_is, with_opened, without}
-use Rattle.states.specs.declared.known.Mode.TheVariants as states_modes
 use Rattle.states.specs.declared.rule.Rule.{Rule}
-use Rattle.rulings.specs.Fitting.{Situation}
 use Rattle.rulings.specs.Regions.{channel_address}
 use Rattle.rulings.specs.Rulings.{Ruling, breaks}
 use Rattle.rulings.specs.Meaning.{Layout, Activation, IsWellFormed}
@@ -43,11 +41,11 @@ use Rattle.rulings.proofs.Within.{is_starting}
 use Rattle.share_laws.specs.Climbing.{LieAlike}
 use Rattle.start_laws.specs.Ending.{StartedAll, LeavesAgreed, EndFits, to_end_own, to_end_branch, end_breaks}
 use Rattle.certified_worlds.specs.Certified.{IsCertified}
-use Rattle.certified_worlds.specs.Invariant.{Process, Opener, Holds}
-use Rattle.certified_worlds.specs.Lives.{Meets, it_lives, it_stopped, it_ended, Lives}
+use Rattle.certified_worlds.specs.Invariant.{Opener, Holds}
+use Rattle.certified_worlds.specs.Lives.{Meets, it_lives, it_stopped, it_ended}
 use Rattle.certified_worlds.specs.ParLabels.{LeavesSaid, EndsAPar}
-use Rattle.certified_worlds.specs.Pending.{IsMember, IsStarter, Pending, StartsHere}
-use Rattle.certified_worlds.specs.Point.{Began, Decodes, Point}
+use Rattle.certified_worlds.specs.Pending.{IsMember, Pending, StartsHere}
+use Rattle.certified_worlds.specs.Point.{Began, Decodes}
 use Rattle.certified_worlds.proofs.BehindKeeps.{behind_of}
 use Rattle.certified_worlds.proofs.ClosedWorlds.{closed_world, closed_is, outlives, closed_holds}
 use Rattle.certified_worlds.proofs.EndedWorlds.{reduced, of_opener, of_branch, of_other, RolesReduced, EndShows}
@@ -60,7 +58,8 @@ use Rattle.certified_worlds.proofs.ParsStay.{own_is, opener_is, opened_is}
 use Rattle.certified_worlds.proofs.RulesGive.{started_all_ends, branch_ends, leaves_said}
 use Rattle.certified_worlds.proofs.StartedWorlds.{starts_beside}
 use Rattle.certified_worlds.proofs.StartsLive.{owed_among}
-use Rattle.certified_worlds.proofs.Steps.{here_of, owed_still}
+use Rattle.certified_worlds.proofs.Standing.{standing, own_join, same_starts}
+use Rattle.certified_worlds.proofs.Steps.{owed_still}
 
 -- nothing is left of a list of no length
 empty : (xs : List ℕ) → (length xs == 0) ≡ true → xs ≡ []
@@ -85,20 +84,7 @@ ends_started (it_ended e) over par j act s = s
 
 module _ (m : Contents) (d : Decodes m) (wf : IsWellFormed m) (c : IsCertified m) (w : World) (h : Holds m w)
     (order : IsOrderly m w) (p : ℕ) (t : Task) (r : IsAtLastByte m w h p t) (pick : ℕ) where
-  abbrev row : Process m w h.began h.dues p t
-  row = h.table.each p t r.here
-
-  abbrev l : Lives m (held row.role) row.start w.memory t row.due
-  l = r.lives
-
-  abbrev point : Point m t
-  point = l.point
-
-  abbrev x : Situation
-  x = here_of m d wf c (held row.role) point.act w.memory t point.state point.instr
-
-  abbrev local : Local
-  local = record { registers = t.registers; memory = w.memory }
+  open standing d wf c r use {row, l, point, x, local}
 
   -- the process that has ended
   abbrev over : Task
@@ -223,31 +209,17 @@ module _ (m : Contents) (d : Decodes m) (wf : IsWellFormed m) (c : IsCertified m
 
   module _ (par : Par) (all : StartedAll x point.state par) (pays : x.len ≤ point.state.number) (j : Join)
       (opened : opened_by w p ≡ Some j) (row_par : Par) (at_row : slice_get m.pars j.row ≡ Some row_par) where
-    is_open : row.role.opened ≡ Some j
-    is_open = sym (opened_is w.roles p row.role row.has_role) ∙ opened
+    open own_join r j opened use {is_open, opener as mine}
 
-    abbrev mine : Opener m w h.began h.dues h.pending_dues h.table p row.role j
-    mine = h.pending p row.role j row.has_role is_open
-
-    starter : IsStarter m t point mine.after.par j mine.after.act
-    starter = subst (λ (meets : Meets m (held row.role) row.start w.memory t row.due).
-        StartsHere meets mine.after.par j mine.after.act) r.is (mine.starter t r.here)
-
-    same_mode : states_modes.Starting all.row (length par.branches) ≡ states_modes.Starting j.row j.started
-    same_mode = sym all.mode ∙ starter.mode
-
-    row_is : all.row ≡ j.row
-    row_is = let both = same_mode in cc
-
-    number_is : length par.branches ≡ j.started
-    number_is = let both = same_mode in cc
+    same : (all.row ≡ j.row) × (length par.branches ≡ j.started)
+    same = same_starts r (own_join r j opened) all.mode
 
     -- all branches of the row are started
     all_started : (other : Par) → slice_get m.pars j.row ≡ Some other → j.started ≡ length other.branches
     all_started other at =
-        let same = same_some (slice_get m.pars j.row) par other
-        (subst (λ (n : ℕ). slice_get m.pars n ≡ Some par) row_is all.is) at in
-        sym number_is ∙ ap (λ (row : Par). length row.branches) same
+        let row_same = same_some (slice_get m.pars j.row) par other
+        (subst (λ (n : ℕ). slice_get m.pars n ≡ Some par) same.0 all.is) at in
+        sym same.1 ∙ ap (λ (row : Par). length row.branches) row_same
 
     abbrev own_roles : List Role
     own_roles = slice_set w.roles p (with_join (join_without p j) row.role)

@@ -43,6 +43,7 @@ use Rattle.share_laws.specs.Climbing.{LieAlike}
 use Rattle.certified_worlds.specs.Point.{Began}
 use Rattle.certified_worlds.specs.ParLabels.{LeavesSaid}
 use Rattle.certified_worlds.specs.Pending.{HasMember, IsOut, AfterPar, Pending, IsMember}
+use Rattle.certified_worlds.proofs.JoinChanges.{after_as, member_as, out_as}
 
 -- ---- facts in layouts that lie alike
 
@@ -95,22 +96,7 @@ join_without p j = record j { members = members_without p j.members }
 -- what the opener goes on with is the same
 abbrev pub after_without : {m : Contents} {j : Join} {due : ℕ} (p : ℕ) → AfterPar m j due
     → AfterPar m (join_without p j) due
-after_without p after = record {
-  par = after.par;
-  row = after.row;
-  label = after.label;
-  at = after.at;
-  context = after.context;
-  depth = after.depth;
-  registers = after.registers;
-  hidden = after.hidden;
-  alone = after.alone;
-  act = after.act;
-  callers = after.callers;
-  laid = after.laid;
-  block = after.block;
-  paid = after.paid;
-}
+after_without {j = j} p after = after_as after (join_without p j) after.row after.laid after.block
 
 -- a word that one of the branches writes is given to write
 given_at : (branches : List Branch) (n : ℕ) (b : Branch) (k : ℤ) → slice_get branches n ≡ Some b
@@ -152,23 +138,11 @@ module _ {m : Contents} {own : Holding} {o : ℕ} {began : Began} {all : List Be
     -- no other word is joined with it
     out_still : (k : ℤ) → is_among member.branch.writes k ≡ false → IsOut m o all after.par j k
         → IsOut m o all after.par (join_without p j) k
-    out_still k none out = record {
-      number = out.number;
-      branch = out.branch;
-      here = out.here;
-      writes = out.writes;
-      is_out = elim out.is_out [
-        | inl unstarted ↦ inl unstarted
-        | inr x ↦ inr (record {
-          process = x.process;
-          other = x.other;
-          start = x.start;
-          has_start = x.has_start;
-          member = member_stays j.members p x.process (λ same. itself out.branch out.writes x same) x.member;
-          is = x.is;
-        })
-      ];
-    }
+    out_still k none out = out_as out (λ is_out. elim is_out [
+      | inl unstarted ↦ inl unstarted
+      | inr x ↦ inr (member_as x x.has_start
+          (member_stays j.members p x.process (λ same. itself out.branch out.writes x same) x.member))
+    ])
       where
         itself : (b : Branch) → is_among b.writes k ≡ true → (x : HasMember m o all after.par j b) → p ≡ x.process → ⊥
         itself b writes x same =
@@ -203,23 +177,11 @@ module _ {m : Contents} {own : Holding} {o : ℕ} {began : Began} {all : List Be
     frame = pending.frame;
     named = pending.named;
     behind = pending.behind;
-    words = λ k reads hides free. pending.words k reads hides (λ out. free (record {
-      number = out.number;
-      branch = out.branch;
-      here = out.here;
-      writes = out.writes;
-      is_out = elim out.is_out [
-        | inl unstarted ↦ inl unstarted
-        | inr x ↦ inr (record {
-          process = x.process;
-          other = x.other;
-          start = x.start;
-          has_start = x.has_start;
-          member = member_stays j.members o x.process (λ same. x.other (sym same)) x.member;
-          is = x.is;
-        })
-      ];
-    }));
+    words = λ k reads hides free. pending.words k reads hides (λ out. free (out_as out (λ is_out. elim is_out [
+      | inl unstarted ↦ inl unstarted
+      | inr x ↦ inr (member_as x x.has_start
+          (member_stays j.members o x.process (λ same. x.other (sym same)) x.member))
+    ])));
   }
 
   -- ---- the last end

@@ -35,7 +35,7 @@ use Rattle.machine_state.proofs.Shares.{left_claims}
 use Rattle.machine_state.proofs.Starting.{first_tests}
 use Rattle.states.specs.declared.known.Mode.TheVariants as states_modes
 use Rattle.states.specs.State.{State, label_state}
-use Rattle.rulings.specs.Fitting.{After, Situation}
+use Rattle.rulings.specs.Fitting.{After}
 use Rattle.rulings.specs.Meaning.{Activation, IsWellFormed, HasFrame, with_turns, words_in}
 use Rattle.rulings.specs.Regions.{Scope, scope_of, KeepsMemory}
 use Rattle.rulings.proofs.Within.{is_starting, scope_still}
@@ -51,11 +51,11 @@ use Rattle.share_laws.proofs.TakenWords.{openings_take_their_words}
 use Rattle.start_laws.specs.BranchLabels.{BeginsAtLabel, owed_at_label}
 use Rattle.start_laws.specs.Starting.{StartsBranch, StartsFirst}
 use Rattle.certified_worlds.specs.Certified.{Reaches, IsCertified}
-use Rattle.certified_worlds.specs.Invariant.{Process, LengthAgrees, Holds}
-use Rattle.certified_worlds.specs.Lives.{awaits, it_lives, Lives}
+use Rattle.certified_worlds.specs.Invariant.{LengthAgrees, Holds}
+use Rattle.certified_worlds.specs.Lives.{awaits, it_lives}
 use Rattle.certified_worlds.specs.ParLabels.{LabelStands}
 use Rattle.certified_worlds.specs.Pending.{IsStarter}
-use Rattle.certified_worlds.specs.Point.{Began, Behind, Decodes, Point, owed_behind}
+use Rattle.certified_worlds.specs.Point.{Began, Behind, Decodes, owed_behind}
 use Rattle.certified_worlds.proofs.BehindKeeps.{behind_lengths, behind_of}
 use Rattle.certified_worlds.proofs.BranchLengths.{branch_lengths}
 use Rattle.certified_worlds.proofs.GrownLists.{got_end}
@@ -73,24 +73,12 @@ use Rattle.certified_worlds.proofs.StartedWorlds.{StartShows}
 use Rattle.certified_worlds.proofs.StartedWorlds.{begotten_holds}
 use Rattle.certified_worlds.proofs.StartsKeepPars.{began_by, becomes_member}
 use Rattle.certified_worlds.proofs.StartsLive.{starter_lives, branch_lives}
-use Rattle.certified_worlds.proofs.Steps.{here_of, owed_still}
+use Rattle.certified_worlds.proofs.Standing.{standing, lives_next}
+use Rattle.certified_worlds.proofs.Steps.{owed_still}
 
 module _ (m : Contents) (d : Decodes m) (wf : IsWellFormed m) (keeps : formats.Keeps m) (c : IsCertified m) (w : World)
     (h : Holds m w) (order : IsOrderly m w) (p : ℕ) (t : Task) (r : IsAtLastByte m w h p t) where
-  abbrev row : Process m w h.began h.dues p t
-  row = h.table.each p t r.here
-
-  abbrev l : Lives m (held row.role) row.start w.memory t row.due
-  l = r.lives
-
-  abbrev point : Point m t
-  point = l.point
-
-  abbrev x : Situation
-  x = here_of m d wf c (held row.role) point.act w.memory t point.state point.instr
-
-  abbrev local : Local
-  local = record { registers = t.registers; memory = w.memory }
+  open standing d wf c r use {row, l, point, x, local}
 
   -- It has no join open, starts the first branch of a PAR, by its rule, and goes on in this state.
   module _ (after : State) (found : Found) (target workspace : ℕ)
@@ -199,20 +187,9 @@ module _ (m : Contents) (d : Decodes m) (wf : IsWellFormed m) (keeps : formats.K
         let then : Local = record { registers = (without_registers local).registers; memory = new_memory } in
         let goes = openers_go_on m found point.act base plan.addresses row.role.own w.memory point.state.depth
         t.registers.workspace after then can n.first can_start b.goes_on refl refl in
-        let lives = starter_lives m d wf c next.rest row.start act (t.registers.began + point.instr.len) after then
-        point.callers found.row (found.number + 1) b.goes_on.mode reached b.low goes in
-        let at : t.registers.began + point.instr.len ≡ t.registers.at + 1 =
-        (let begun = point.reading.at_is in let last = r.last in omega (arith, begun, last)) in
-        subst (λ (condition : Condition). LivesAs m next.rest row.start new_memory (record {
-          registers = between (t.registers.at + 1) (without_registers local).registers;
-          mode = machine_modes.Starting;
-          condition = condition;
-        }) after.number after act) (sym r.ready)
-        (subst (λ (k : ℕ). LivesAs m next.rest row.start new_memory (record {
-          registers = between k (without_registers local).registers;
-          mode = machine_modes.Starting;
-          condition = Ready;
-        }) after.number after act) at lives)
+        lives_next r (without_registers local).registers (starter_lives m d wf c next.rest row.start act
+        (t.registers.began + point.instr.len) after then point.callers found.row (found.number + 1) b.goes_on.mode
+        reached b.low goes)
 
     branch_lives_then : LivesAs m own (began_by m found act.layout) new_memory
         (new_task found.branch branch_workspace) (owed_at_label n.branch.label n.branch.turns)

@@ -8,8 +8,6 @@ use Rattle.small_laws.proofs.Lookups.{slice_get-append_left}
 use Rattle.module_format.specs.Contents.{Contents, Par}
 use Rattle.module_format.specs.Keeping as formats
 use Rattle.machine_state.specs.declared.holding.End.{End}
-use Rattle.machine_state.specs.declared.process.Condition.{Condition}
-use Rattle.machine_state.specs.declared.process.Condition.TheVariants.{Ready}
 use Rattle.machine_state.specs.declared.process.Mode.TheVariants as machine_modes
 use Rattle.machine_state.specs.declared.process.Task.{Task}
 use Rattle.machine_state.specs.BranchShares.{frame_address}
@@ -29,7 +27,7 @@ use Rattle.machine_state.proofs.FoundContexts.{branches_are_contexts}
 use Rattle.machine_state.proofs.Starting.{later_tests}
 use Rattle.states.specs.declared.known.Mode.TheVariants as states_modes
 use Rattle.states.specs.State.{State, label_state}
-use Rattle.rulings.specs.Fitting.{After, Situation}
+use Rattle.rulings.specs.Fitting.{After}
 use Rattle.rulings.specs.Meaning.{IsWellFormed, with_turns}
 use Rattle.rulings.specs.Regions.{scope_of, HoldsNamed}
 use Rattle.share_laws.specs.Shares.{IsLaidOut}
@@ -40,10 +38,10 @@ use Rattle.share_laws.proofs.Prepared.{later_starts_pass}
 use Rattle.start_laws.specs.BranchLabels.{owed_at_label}
 use Rattle.start_laws.specs.Starting.{StartsBranch, StartsNext}
 use Rattle.certified_worlds.specs.Certified.{Reaches, IsCertified}
-use Rattle.certified_worlds.specs.Invariant.{Process, LengthAgrees, Opener, Holds}
-use Rattle.certified_worlds.specs.Lives.{Meets, it_lives, Lives}
-use Rattle.certified_worlds.specs.Pending.{IsStarter, StartsHere}
-use Rattle.certified_worlds.specs.Point.{Began, Decodes, Point}
+use Rattle.certified_worlds.specs.Invariant.{LengthAgrees, Holds}
+use Rattle.certified_worlds.specs.Lives.{it_lives}
+use Rattle.certified_worlds.specs.Pending.{IsStarter}
+use Rattle.certified_worlds.specs.Point.{Began, Decodes}
 use Rattle.certified_worlds.proofs.BehindKeeps.{behind_lengths}
 use Rattle.certified_worlds.proofs.BranchLengths.{branch_lengths}
 use Rattle.certified_worlds.proofs.GrownLists.{got_end}
@@ -51,31 +49,18 @@ use Rattle.certified_worlds.proofs.LivesAs.{LivesAs}
 use Rattle.certified_worlds.proofs.OrderlyWorlds.{IsOrderly, IsAtLastByte}
 use Rattle.certified_worlds.proofs.OthersAfterStarts.{begotten_others}
 use Rattle.certified_worlds.proofs.OwnWords.{scheduling_is_own}
-use Rattle.certified_worlds.proofs.ParsStay.{Changer, opened_is, starter_changes, others_stay}
+use Rattle.certified_worlds.proofs.ParsStay.{Changer, starter_changes, others_stay}
 use Rattle.certified_worlds.proofs.StartedWorlds.{Beginning, begotten, started_is, OpenerGoesOn, StartShows}
 use Rattle.certified_worlds.proofs.StartedWorlds.{begotten_holds}
 use Rattle.certified_worlds.proofs.StartsKeepPars.{IsOneMore, is_one_more, after_next, starter_alike, starter_laid}
 use Rattle.certified_worlds.proofs.StartsKeepPars.{starter_goes_on, began_by, becomes_member, same_par, start_keeps}
 use Rattle.certified_worlds.proofs.StartsKeepPars.{start_leaves}
 use Rattle.certified_worlds.proofs.StartsLive.{owed_among, starter_lives, branch_lives}
-use Rattle.certified_worlds.proofs.Steps.{here_of}
+use Rattle.certified_worlds.proofs.Standing.{standing, own_join, lives_next, same_starts}
 
 module _ (m : Contents) (d : Decodes m) (wf : IsWellFormed m) (keeps : formats.Keeps m) (c : IsCertified m) (w : World)
     (h : Holds m w) (order : IsOrderly m w) (p : ℕ) (t : Task) (r : IsAtLastByte m w h p t) where
-  abbrev row : Process m w h.began h.dues p t
-  row = h.table.each p t r.here
-
-  abbrev l : Lives m (held row.role) row.start w.memory t row.due
-  l = r.lives
-
-  abbrev point : Point m t
-  point = l.point
-
-  abbrev x : Situation
-  x = here_of m d wf c (held row.role) point.act w.memory t point.state point.instr
-
-  abbrev local : Local
-  local = record { registers = t.registers; memory = w.memory }
+  open standing d wf c r use {row, l, point, x, local}
 
   -- It starts the next branch of its PAR, by its rule, and goes on in this state.
   module _ (after : State) (found : Found) (target workspace : ℕ)
@@ -83,28 +68,17 @@ module _ (m : Contents) (d : Decodes m) (wf : IsWellFormed m) (keeps : formats.K
       (n : StartsNext x point.state after local found)
       (reached : Reaches m (t.registers.began + point.instr.len) (Some after)) (j : Join)
       (opened : opened_by w p ≡ Some j) (pick : ℕ) where
-    is_open : row.role.opened ≡ Some j
-    is_open = sym (opened_is w.roles p row.role row.has_role) ∙ opened
+    open own_join r j opened use {is_open, opener, starter}
 
     -- what is left to it
     held_is : held row.role ≡ j.rest
     held_is = ap (λ (o : Option Join). elim o as (λ o. Holding) [ None ↦ row.role.own | Some join ↦ join.rest ]) is_open
 
-    abbrev opener : Opener m w h.began h.dues h.pending_dues h.table p row.role j
-    opener = h.pending p row.role j row.has_role is_open
-
-    starter : IsStarter m t point opener.after.par j opener.after.act
-    starter = subst (λ (meets : Meets m (held row.role) row.start w.memory t row.due).
-        StartsHere meets opener.after.par j opener.after.act) r.is (opener.starter t r.here)
-
-    same_mode : states_modes.Starting found.row found.number ≡ states_modes.Starting j.row j.started
-    same_mode = sym n.mode ∙ starter.mode
-
     row_is : found.row ≡ j.row
-    row_is = let both = same_mode in cc
+    row_is = (same_starts r (own_join r j opened) n.mode).0
 
     number_is : found.number ≡ j.started
-    number_is = let both = same_mode in cc
+    number_is = (same_starts r (own_join r j opened) n.mode).1
 
     par_is : found.par ≡ opener.after.par
     par_is = same_par opener.pending found keeps b.is b.left row_is number_is
@@ -168,21 +142,10 @@ module _ (m : Contents) (d : Decodes m) (wf : IsWellFormed m) (keeps : formats.K
         let goes = subst (λ (g : Holding). After m (held_by_starter m found j.base j.parameters g (length w.memory))
         machine_modes.Starting point.act after
         (record { registers = (without_registers local).registers; memory = new_memory })) held_is after_it in
-        let lives = starter_lives m d wf c next.rest row.start point.act (t.registers.began + point.instr.len) after
+        lives_next r (without_registers local).registers (starter_lives m d wf c next.rest row.start point.act
+        (t.registers.began + point.instr.len) after
         (record { registers = (without_registers local).registers; memory = new_memory }) point.callers found.row
-        (found.number + 1) b.goes_on.mode reached b.low goes in
-        let at : t.registers.began + point.instr.len ≡ t.registers.at + 1 =
-        (let begun = point.reading.at_is in let last = r.last in omega (arith, begun, last)) in
-        subst (λ (condition : Condition). LivesAs m next.rest row.start new_memory (record {
-          registers = between (t.registers.at + 1) (without_registers local).registers;
-          mode = machine_modes.Starting;
-          condition = condition;
-        }) after.number after point.act) (sym r.ready)
-        (subst (λ (k : ℕ). LivesAs m next.rest row.start new_memory (record {
-          registers = between k (without_registers local).registers;
-          mode = machine_modes.Starting;
-          condition = Ready;
-        }) after.number after point.act) at lives)
+        (found.number + 1) b.goes_on.mode reached b.low goes)
 
     branch_lives_then : LivesAs m own (began_by m found point.act.layout) new_memory
         (new_task found.branch branch_workspace) (owed_at_label n.branch.label n.branch.turns)

@@ -5,6 +5,7 @@ pub mod Steps
 pub mod Carrying
 pub mod BranchChanges
 pub mod ParsStay
+pub mod JoinChanges
 pub mod StartsKeepPars
 pub mod OpeningsMakePars
 pub mod EndsKeepPars
@@ -16,6 +17,7 @@ pub mod GrownLists
 pub mod OrderlyWorlds
 pub mod StartsLive
 pub mod StartedWorlds
+pub mod Standing
 pub mod BranchLengths
 pub mod MadeChannels
 pub mod OwnWords

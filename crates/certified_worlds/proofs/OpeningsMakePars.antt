@@ -1,11 +1,10 @@
 -- The first start of a PAR makes what its opener goes on with once all branches are joined.
 use Rattle.std.proofs.Common.{◌≡◌, ◌≢◌, ℕ, zero, suc, ◌+◌, ◌&&◌, not, true, false, inl, inr, ℤ, pos}
 use Rattle.std.proofs.Common.{◌+ℤ◌, List, [], ◌∷◌, length, take, Some, refl, sym, ap, ◌∙◌, subst, arith}
-use Rattle.std.proofs.lemmas.Bool.{cases_lt, and_from, or_cases, cases_Bool, not_from_false}
+use Rattle.std.proofs.lemmas.Bool.{and_from, or_cases, cases_Bool, not_from_false}
 use Rattle.std.proofs.lemmas.Int.{ints}
 use Rattle.std.specs.Prelude.{slice_get}
 use Rattle.std.specs.List.{list_any}
-use Rattle.small_laws.proofs.Options.{same_some}
 use Rattle.module_format.specs.Contents.{Contents, Par, Branch}
 use Rattle.certificate.specs.Branches.{numbered_branch}
 use Rattle.certificate.specs.Rights.{may_read_word, is_among}
@@ -31,7 +30,7 @@ use Rattle.share_laws.specs.Opening.{CanOpen, layout_with}
 use Rattle.share_laws.specs.Shares as shares
 use Rattle.share_laws.specs.Shares.{IsLaidOut}
 use Rattle.share_laws.specs.Starts.{IsLeft}
-use Rattle.share_laws.specs.Taking.{IsScheduling, OpenerKeeps, OpeningTakes, memory_after_start, after_opening}
+use Rattle.share_laws.specs.Taking.{OpenerKeeps, OpeningTakes, memory_after_start, after_opening}
 use Rattle.share_laws.proofs.HiddenWords.{fits_words, hidden_word, block_hides}
 use Rattle.share_laws.proofs.OpenerHolds.{none_started}
 use Rattle.share_laws.proofs.ShareBytes.{frame_channel}
@@ -39,6 +38,7 @@ use Rattle.share_laws.proofs.TakenWords.{openings_take_their_words, starts_keep_
 use Rattle.certified_worlds.specs.Point.{Began, Behind, owed_behind}
 use Rattle.certified_worlds.specs.ParLabels.{LabelStands}
 use Rattle.certified_worlds.specs.Pending.{HasMember, IsOut, AfterPar, Pending}
+use Rattle.certified_worlds.proofs.JoinChanges.{out_from, scheduled_out}
 use Rattle.certified_worlds.proofs.BehindKeeps.{behind_keeps}
 use Rattle.certified_worlds.proofs.StartsKeepPars.{member_last}
 
@@ -175,32 +175,17 @@ module _ {m : Contents} {own : Holding} {found : Found} {act : Activation} {base
           branch = w.branch;
           here = w.here;
           writes = w.writes;
-          is_out = elim (cases_lt found.number w.number) [
-            | inl later ↦ inl (let started = first.started in omega (arith, later, started, zero_is))
-            | inr low ↦
-                let same : found.number ≡ w.number = omega (arith, low, zero_is) in
-                inr (subst (λ (b : Branch). HasMember m o every par j b)
-                (same_some (slice_get par.branches w.number) found.branch w.branch
-                (subst (λ (n : ℕ). slice_get par.branches n ≡ Some found.branch) same is.branch) w.here) first_member)
-          ];
+          is_out = out_from found is.branch first_member
+              (let started = first.started in omega (arith, started, zero_is)) w.number w.branch w.here
+              (omega (arith, zero_is));
         }
-
-    scheduled_out : (k : ℤ) → IsScheduling found k → IsOut m o every par j k
-    scheduled_out k scheduled = record {
-      number = found.number;
-      branch = found.branch;
-      here = is.branch;
-      writes = subst (λ (z : ℤ). is_among found.branch.writes z ≡ true) (sym scheduled.is)
-          (left.scheduling scheduled.n scheduled.low);
-      is_out = inr first_member;
-    }
 
     -- a word that is not out with a branch has its value
     word_stays : (k : ℤ) → may_read_word m par.context k ≡ true → is_hidden par k ≡ false
         → (IsOut m o every par j k → ⊥)
         → frame_word new_memory act.layout.origin k ≡ frame_word memory act.layout.origin k
     word_stays k reads hides free =
-        opener_keeps.others k (λ scheduled. free (scheduled_out k scheduled))
+        opener_keeps.others k (λ scheduled. free (scheduled_out found is.branch first_member left k scheduled))
         ∙ taken.words k (and_from (may_read_word m par.context k && not (is_hidden par k)) _
         (and_from (may_read_word m par.context k) _ reads (not_from_false (is_hidden par k) hides))
         (not_from_false (word_given_to_write par 0 k) (none_started par (λ b. is_among b.writes k))))

@@ -1,23 +1,20 @@
 -- An end leaves what the others meet, and so does the end of a join.
-use Rattle.std.proofs.Common.{◌≡◌, ◌≢◌, ℕ, List, Some, refl, sym, ap, ◌∙◌, subst}
+use Rattle.std.proofs.Common.{◌≡◌, ◌≢◌, ℕ, List, Some, refl, sym, ◌∙◌}
 use Rattle.std.specs.Prelude.{slice_get, slice_set}
-use Rattle.small_laws.proofs.Options.{same_some}
 use Rattle.module_format.specs.Contents.{Contents, Par}
 use Rattle.machine_state.specs.declared.process.Channel.{Channel}
 use Rattle.machine_state.specs.declared.process.Condition.TheVariants.{Ready, Sending, Ended}
 use Rattle.machine_state.specs.declared.process.Task.{Task}
-use Rattle.machine_state.specs.EnabledLaws.{Alternates, HasReady, a_sender, a_byte}
+use Rattle.machine_state.specs.EnabledLaws.{Alternates, HasReady}
 use Rattle.machine_state.specs.Holding.{nothing}
 use Rattle.machine_state.specs.Joins.{closed_task}
-use Rattle.machine_state.specs.Moves.{cell_of}
 use Rattle.machine_state.specs.World.{World, Role, Join, Queue}
 use Rattle.machine_state.proofs.ChannelWaiters.{left_channel}
 use Rattle.machine_state.proofs.Frame.{changes_nothing}
 use Rattle.machine_state.proofs.Lines.{got_other}
 use Rattle.machine_state.proofs.WhoWaits.{left_still}
-use Rattle.certified_worlds.specs.Alternating.{EnablesAt, a_channel, a_link}
 use Rattle.certified_worlds.specs.Invariant.{Holds}
-use Rattle.certified_worlds.proofs.Carrying.{SameEnabled, enabled_as_before, ready_on}
+use Rattle.certified_worlds.proofs.Carrying.{SameEnabled, enabled_alike, enabled_as_before, ready_alike, ready_on}
 use Rattle.certified_worlds.proofs.ClosedWorlds.{closed_world}
 use Rattle.certified_worlds.proofs.EndedWorlds.{reduced}
 use Rattle.certified_worlds.proofs.OrderlyWorlds.{OthersMeet}
@@ -50,30 +47,13 @@ module _ (m : Contents) (w : World) (h : Holds m w) (o : ℕ) (role : Role) (j :
     stays k c there is = left_still o w.channels k c there (survives q u differ at alternates k c there is)
 
     enabled : SameEnabled w after q
-    enabled = record { fewer = λ address is. fewer address is; more = λ address is. more address is }
-      where
-        fewer : (address : ℕ) → EnablesAt after q address → EnablesAt w q address
-        fewer address (a_channel word c there is) =
-            a_channel word c (left_channel o w.channels (cell_of address) c there) is
-        fewer address (a_link k link on there is) = a_link k link on there is
-
-        more : (address : ℕ) → EnablesAt w q address → EnablesAt after q address
-        more address (a_channel word c there is) = a_channel word c (stays (cell_of address) c there is) is
-        more address (a_link k link on there is) = a_link k link on there is
+    enabled = enabled_alike w after q (λ k c there is. left_channel o w.channels k c there) stays refl
 
     has_ready : HasReady w.tasks w.channels w.links.inputs q
         → HasReady after.tasks after.channels after.links.inputs q
-    has_ready (a_byte k link byte on is kept) = a_byte k link byte on is kept
-    has_ready (a_sender k c r sender e on is waiting there sends) =
-        a_sender k c r sender e (stays k c on is) is waiting
-        (got_other w.tasks o r (closed_task j par t) other ∙ there) sends
-      where
-        other : o ≢ r
-        other same =
-            let one = same_some (slice_get w.tasks r) t sender
-            (subst (λ (n : ℕ). slice_get w.tasks n ≡ Some t) same here) there in
-            let no' : Ended ≡ Sending e = sym ended ∙ (ap (λ (v : Task). v.condition) one ∙ sends) in
-            cc
+    has_ready = ready_alike w.tasks after.tasks w.channels after.channels w.links.inputs q o t here
+        (λ e sends. let no' : Ended ≡ Sending e = sym ended ∙ sends in cc) stays
+        (λ r v other has. got_other w.tasks o r (closed_task j par t) other ∙ has)
 
   pub closed_others : OthersMeet m w h o after
   closed_others = others_meet m w after nothing (changes_nothing nothing w.memory) h o

@@ -1,18 +1,15 @@
 -- A start leaves what the others meet.
-use Rattle.std.proofs.Common.{◌≡◌, ◌≢◌, ◌⊎◌, ℕ, inl, inr, Some, None, sym, ap, ◌∙◌, subst}
+use Rattle.std.proofs.Common.{◌≡◌, ◌⊎◌, ℕ, inl, inr, Some, None, refl, sym, ◌∙◌}
 use Rattle.std.specs.Prelude.{slice_get}
-use Rattle.small_laws.proofs.Options.{same_some}
 use Rattle.module_format.specs.Contents.{Contents}
 use Rattle.machine_state.specs.declared.process.Channel.{Channel}
 use Rattle.machine_state.specs.declared.process.Condition.TheVariants.{Ready, Sending}
 use Rattle.machine_state.specs.declared.process.Task.{Task}
-use Rattle.machine_state.specs.EnabledLaws.{HasReady, a_sender, a_byte}
+use Rattle.machine_state.specs.EnabledLaws.{HasReady}
 use Rattle.machine_state.specs.Frame.{ChangesOwn}
-use Rattle.machine_state.specs.Moves.{cell_of}
 use Rattle.machine_state.specs.World.{World, held}
-use Rattle.certified_worlds.specs.Alternating.{EnablesAt, a_channel, a_link}
 use Rattle.certified_worlds.specs.Invariant.{Process, Holds}
-use Rattle.certified_worlds.proofs.Carrying.{SameEnabled}
+use Rattle.certified_worlds.proofs.Carrying.{SameEnabled, enabled_alike, ready_alike}
 use Rattle.certified_worlds.proofs.GrownLists.{got_unchanged}
 use Rattle.certified_worlds.proofs.OrderlyWorlds.{IsOrderly, OthersMeet, KeepsChannels}
 use Rattle.certified_worlds.proofs.OthersStay.{others_meet}
@@ -32,32 +29,16 @@ module _ (m : Contents) (w : World) (h : Holds m w) (order : IsOrderly m w) (p :
   after = begotten w p row.role s
 
   enabled : (q : ℕ) → SameEnabled w after q
-  enabled q = record { fewer = λ address is. fewer address is; more = λ address is. more address is }
-    where
-      fewer : (address : ℕ) → EnablesAt after q address → EnablesAt w q address
-      fewer address (a_channel word c at is) = elim (quiet (cell_of address) c at) [
-        | inl old ↦ a_channel word c old is
-        | inr none ↦ let no' : None ≡ Some q = sym none ∙ is in absurd (cc)
-      ]
-      fewer address (a_link k link at there is) = a_link k link at there is
-
-      more : (address : ℕ) → EnablesAt w q address → EnablesAt after q address
-      more address (a_channel word c at is) = a_channel word c (keeps (cell_of address) c at) is
-      more address (a_link k link at there is) = a_link k link at there is
+  enabled q = enabled_alike w after q (λ k c at is. elim (quiet k c at) [
+    | inl old ↦ old
+    | inr none ↦ let no' : None ≡ Some q = sym none ∙ is in absurd (cc)
+  ]) (λ k c at is. keeps k c at) refl
 
   has_ready : (q : ℕ) → HasReady w.tasks w.channels w.links.inputs q
       → HasReady after.tasks after.channels after.links.inputs q
-  has_ready q (a_byte k link byte at is kept) = a_byte k link byte at is kept
-  has_ready q (a_sender k c r sender e at is waiting there sends) =
-      a_sender k c r sender e (keeps k c at) is waiting
-      (got_unchanged w.tasks p s.task s.child r sender differ there) sends
-    where
-      differ : p ≢ r
-      differ same =
-          let one = same_some (slice_get w.tasks r) t sender
-          (subst (λ (n : ℕ). slice_get w.tasks n ≡ Some t) same here) there in
-          let no' : Ready ≡ Sending e = sym ready ∙ (ap (λ (u : Task). u.condition) one ∙ sends) in
-          cc
+  has_ready q = ready_alike w.tasks after.tasks w.channels after.channels w.links.inputs q p t here
+      (λ e sends. let no' : Ready ≡ Sending e = sym ready ∙ sends in cc) (λ k c at is. keeps k c at)
+      (λ r v other has. got_unchanged w.tasks p s.task s.child r v other has)
 
   pub begotten_others : OthersMeet m w h p after
   begotten_others = others_meet m w after (held row.role) changes h p

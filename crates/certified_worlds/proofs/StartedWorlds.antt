@@ -41,6 +41,7 @@ use Rattle.certified_worlds.specs.Point.{Began}
 use Rattle.certified_worlds.proofs.DuesAreSplit.{start_owes}
 use Rattle.certified_worlds.proofs.GrownLists.{got_end, got_within_grown, length_changed, got_changed, got_added}
 use Rattle.certified_worlds.proofs.GrownLists.{got_unchanged, as_set, as_added, as_before, stands_as}
+use Rattle.certified_worlds.proofs.JoinChanges.{AreMembers, member_as, out_as}
 use Rattle.certified_worlds.proofs.OrderlyWorlds.{OthersMeet, KeepsChannels}
 
 -- ---- the world after a start
@@ -110,23 +111,10 @@ pending_grows {m} {o = o} {all = all} {j = j} {after = after} every grows pendin
 }
   where
     still : (k : ℤ) → IsOut m o all after.par j k → IsOut m o every after.par j k
-    still k out = record {
-      number = out.number;
-      branch = out.branch;
-      here = out.here;
-      writes = out.writes;
-      is_out = elim out.is_out [
-        | inl unstarted ↦ inl unstarted
-        | inr x ↦ inr (record {
-          process = x.process;
-          other = x.other;
-          start = x.start;
-          has_start = grows x.process x.start x.has_start;
-          member = x.member;
-          is = x.is;
-        })
-      ];
-    }
+    still k out = out_as out (λ is_out. elim is_out [
+      | inl unstarted ↦ inl unstarted
+      | inr x ↦ inr (member_as x (grows x.process x.start x.has_start) x.member)
+    ])
 
 -- messages are as long where all channels are there still
 pub agrees_still : {m : Contents} {old new : List (Option Channel)} {start : Began} {e : End} → KeepsChannels old new
@@ -295,12 +283,8 @@ module _ (m : Contents) (w : World) (h : Holds m w) (p : ℕ) (t : Task) (here :
     -- ---- each opener
 
     -- the members of a process's join: those that were, and the branch
-    members_after : (q : ℕ) (par : Par) (layout : Layout)
-        → ((d : ℕ) (branch : Role) (first : Began) → slice_get w.roles d ≡ Some branch → branch.opener ≡ Some q
-        → (IsGone w.tasks branch d → ⊥) → slice_get h.began d ≡ Some first → IsMember m par layout first)
-        → (p ≡ q → IsMember m par layout s.began) → (d : ℕ) (branch : Role) (first : Began)
-        → slice_get after.roles d ≡ Some branch → branch.opener ≡ Some q → (IsGone after.tasks branch d → ⊥)
-        → slice_get every d ≡ Some first → IsMember m par layout first
+    members_after : (q : ℕ) (par : Par) (layout : Layout) → AreMembers m w.tasks w.roles h.began q par layout
+        → (p ≡ q → IsMember m par layout s.began) → AreMembers m after.tasks after.roles every q par layout
     members_after q par layout old newest d branch first has by live begun =
         elim (stands_as w.roles p role_after branch_after d branch has) [
           | as_set same is ↦ old p row.role first row.has_role (sym (ap (λ (r : Role). r.opener) is) ∙ by) unended
@@ -403,17 +387,14 @@ module _ (m : Contents) (w : World) (h : Holds m w) (p : ℕ) (t : Task) (here :
     pub begotten_holds : Holds m after
     begotten_holds =
         let tasks = length_changed w.tasks p s.task s.child in
-        let begun = h.counted.begun in
-        let owing = h.counted.owing in
-        let waiting = h.counted.pending in
         record {
           dues = dues_after;
           pending_dues = pending_after;
           began = every;
           counted = record {
-            begun = (let many = length-append h.began (s.began ∷ []) in omega (arith, tasks, begun, many));
-            owing = (let many = length_changed h.dues p s.left s.owing in omega (arith, tasks, owing, many));
-            pending = (let many = length_changed h.pending_dues p s.waiting 0 in omega (arith, tasks, waiting, many));
+            begun = omega (arith, tasks, h.counted.begun, length-append h.began (s.began ∷ []));
+            owing = omega (arith, tasks, h.counted.owing, length_changed h.dues p s.left s.owing);
+            pending = omega (arith, tasks, h.counted.pending, length_changed h.pending_dues p s.waiting 0);
           };
           table = table_after;
           pending = openers_after;

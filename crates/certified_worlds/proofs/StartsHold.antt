@@ -16,44 +16,29 @@ use Rattle.machine_state.specs.JoinLookups.{Found, found_at, opened_by}
 use Rattle.machine_state.specs.Joins.{started, opened}
 use Rattle.machine_state.specs.LocalStep.{without_registers}
 use Rattle.machine_state.specs.Moves.{counted}
-use Rattle.machine_state.specs.Site.{Local, Outcome, starts}
+use Rattle.machine_state.specs.Site.{Outcome, starts}
 use Rattle.machine_state.specs.StartPlans.{first_plan, later_plan, first_fault, first_faults, later_faults}
 use Rattle.machine_state.specs.Turn.{at_here}
-use Rattle.machine_state.specs.World.{World, Join, held, holding_at}
+use Rattle.machine_state.specs.World.{World, Join, holding_at}
 use Rattle.states.specs.declared.rule.Rule.{Rule}
 use Rattle.states.specs.State.{State}
-use Rattle.rulings.specs.Fitting.{Situation}
 use Rattle.rulings.specs.Meaning.{IsWellFormed}
 use Rattle.rulings.specs.Rulings.{Ruling, breaks, falling}
 use Rattle.start_laws.specs.Starting.{StartsBranch, StartsNext, StartsFirst, StartFits, to_start_next, to_start_first}
 use Rattle.start_laws.specs.Starting.{start_breaks}
 use Rattle.certified_worlds.specs.Certified.{Reaches, IsCertified}
-use Rattle.certified_worlds.specs.Invariant.{Process, Holds}
-use Rattle.certified_worlds.specs.Lives.{Lives}
-use Rattle.certified_worlds.specs.Point.{Decodes, Point}
+use Rattle.certified_worlds.specs.Invariant.{Holds}
+use Rattle.certified_worlds.specs.Point.{Decodes}
 use Rattle.certified_worlds.proofs.EndsAreInOrder.{none_open}
 use Rattle.certified_worlds.proofs.FirstStartsHold.{first_start_passes, first_start_holds}
 use Rattle.certified_worlds.proofs.LaterStartsHold.{later_row, later_start_passes, later_start_holds}
 use Rattle.certified_worlds.proofs.OrderlyWorlds.{IsOrderly, IsAtLastByte}
 use Rattle.certified_worlds.proofs.ParsStay.{opened_is}
-use Rattle.certified_worlds.proofs.Steps.{here_of}
+use Rattle.certified_worlds.proofs.Standing.{standing}
 
 module _ (m : Contents) (d : Decodes m) (wf : IsWellFormed m) (keeps : formats.Keeps m) (c : IsCertified m) (w : World)
     (h : Holds m w) (order : IsOrderly m w) (p : ℕ) (t : Task) (r : IsAtLastByte m w h p t) (pick : ℕ) where
-  abbrev row : Process m w h.began h.dues p t
-  row = h.table.each p t r.here
-
-  abbrev l : Lives m (held row.role) row.start w.memory t row.due
-  l = r.lives
-
-  abbrev point : Point m t
-  point = l.point
-
-  abbrev x : Situation
-  x = here_of m d wf c (held row.role) point.act w.memory t point.state point.instr
-
-  abbrev local : Local
-  local = record { registers = t.registers; memory = w.memory }
+  open standing d wf c r use {row, point, x, local}
 
   -- a process that is among the starts of a PAR has a join open, and one in plain mode has none
   has_join : t.mode ≡ machine_modes.Starting → (j : Join) × (opened_by w p ≡ Some j)
@@ -82,6 +67,31 @@ module _ (m : Contents) (d : Decodes m) (wf : IsWellFormed m) (keeps : formats.K
         let no' : true ≡ false = sym is ∙ none in
         cc
 
+    -- no test of a start fails where none of the open PAR's row, of a first start and of a later one does
+    none_fails : ((j : Join) (other : Found) → found_at m target ≡ Some other → opened_by w p ≡ Some j
+        → (other.row == j.row) ≡ false → ⊥)
+        → ((other : Found) (kind : FaultKind) → found_at m target ≡ Some other → opened_by w p ≡ None
+        → first_fault (first_faults m w.memory (holding_at w.roles p)
+        (first_plan m p t.registers.workspace (holding_at w.roles p) w.memory other) other workspace) ≡ Some kind → ⊥)
+        → ((j : Join) (other : Found) (kind : FaultKind) → found_at m target ≡ Some other → opened_by w p ≡ Some j
+        → first_fault (later_faults (length w.memory) (later_plan m j other.par) other workspace) ≡ Some kind → ⊥)
+        → {kind : FaultKind} → Refused (at_here m p t pick) w (starts target workspace (without_registers local)) kind
+        → ⊥
+    none_fails rows firsts laters (no_code_follows needs none) = follows_on none
+    none_fails rows firsts laters (starts_no_branch_not_own a e k none own) =
+        let no' : None ≡ Some found = sym none ∙ b.found_is in
+        cc
+    none_fails rows firsts laters (starts_no_branch a e k none own) =
+        let no' : None ≡ Some found = sym none ∙ b.found_is in
+        cc
+    none_fails rows firsts laters (starts_other_row_not_own a e k other j at opens differ own) =
+        rows j other at opens differ
+    none_fails rows firsts laters (starts_other_row a e k other j at opens differ own) = rows j other at opens differ
+    none_fails rows firsts laters (fails_first_tests a e k other kind at unopened fails) =
+        firsts other kind at unopened fails
+    none_fails rows firsts laters (fails_later_tests a e k other j kind at opens same fails) =
+        laters j other kind at opens fails
+
     -- ---- a later start
 
     module _ (n : StartsNext x point.state after local found) where
@@ -95,26 +105,16 @@ module _ (m : Contents) (d : Decodes m) (wf : IsWellFormed m) (keeps : formats.K
 
       next_passes : {kind : FaultKind}
           → Refused (at_here m p t pick) w (starts target workspace (without_registers local)) kind → ⊥
-      next_passes (no_code_follows needs none) = follows_on none
-      next_passes (starts_no_branch_not_own a e k none own) =
-          let no' : None ≡ Some found = sym none ∙ b.found_is in
-          cc
-      next_passes (starts_no_branch a e k none own) =
-          let no' : None ≡ Some found = sym none ∙ b.found_is in
-          cc
-      next_passes (starts_other_row_not_own a e k other j at opens differ own) = other_row j other at opens differ
-      next_passes (starts_other_row a e k other j at opens differ own) = other_row j other at opens differ
-      next_passes (fails_first_tests a e k other kind at unopened fails) =
+      next_passes refused = none_fails other_row (λ other kind at unopened fails.
           let o = has_join n.machine_mode in
           let no' : None ≡ Some o.0 = sym unopened ∙ o.1 in
-          cc
-      next_passes (fails_later_tests a e k other j kind at opens same fails) =
+          cc) (λ j other kind at opens fails.
           let passes =
           later_start_passes m d wf keeps c w h order p t r after found target workspace b n reached j opens pick in
           let no' : None ≡ Some kind = sym passes
           ∙ (ap (λ (f : Found). first_fault (later_faults (length w.memory) (later_plan m j f.par) f workspace))
           (same_found other at) ∙ fails) in
-          cc
+          cc) refused
 
       next_holds : {v : World} → Moved (at_here m p t pick) w (starts target workspace (without_registers local)) v
           → Holds m (counted v)
@@ -132,24 +132,15 @@ module _ (m : Contents) (d : Decodes m) (wf : IsWellFormed m) (keeps : formats.K
     module _ (n : StartsFirst x point.state after local found) where
       first_passes : {kind : FaultKind}
           → Refused (at_here m p t pick) w (starts target workspace (without_registers local)) kind → ⊥
-      first_passes (no_code_follows needs none) = follows_on none
-      first_passes (starts_no_branch_not_own a e k none own) =
-          let no' : None ≡ Some found = sym none ∙ b.found_is in
-          cc
-      first_passes (starts_no_branch a e k none own) =
-          let no' : None ≡ Some found = sym none ∙ b.found_is in
-          cc
-      first_passes (starts_other_row_not_own a e k other j at opens differ own) = no_join n.machine_mode j opens
-      first_passes (starts_other_row a e k other j at opens differ own) = no_join n.machine_mode j opens
-      first_passes (fails_first_tests a e k other kind at unopened fails) =
+      first_passes refused = none_fails (λ j other at opens differ. no_join n.machine_mode j opens)
+          (λ other kind at unopened fails.
           let passes =
           first_start_passes m d wf keeps c w h order p t r after found target workspace b n reached unopened pick in
           let no' : None ≡ Some kind = sym passes
           ∙ (ap (λ (f : Found). first_fault (first_faults m w.memory (holding_at w.roles p)
           (first_plan m p t.registers.workspace (holding_at w.roles p) w.memory f) f workspace))
           (same_found other at) ∙ fails) in
-          cc
-      first_passes (fails_later_tests a e k other j kind at opens same fails) = no_join n.machine_mode j opens
+          cc) (λ j other kind at opens fails. no_join n.machine_mode j opens) refused
 
       -- the world after it
       abbrev first_started : Found → World

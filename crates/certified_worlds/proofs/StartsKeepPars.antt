@@ -1,14 +1,13 @@
 -- A later start of a PAR leaves what its opener goes on with, and the branch that is started is one of its members.
 use Rattle.std.proofs.Common.{◌≡◌, ◌≢◌, ℕ, ◌+◌, true, inl, inr, ℤ, pos, List, []}
 use Rattle.std.proofs.Common.{◌∷◌, ◌++◌, ◌+ℤ◌, length, Option, Some, refl, sym, ap, ◌∙◌, subst, arith}
-use Rattle.std.proofs.lemmas.Bool.{cases_lt, or_cases, or_left, or_right}
+use Rattle.std.proofs.lemmas.Bool.{or_cases, or_left, or_right}
 use Rattle.std.specs.Prelude.{slice_get, ◌==◌, ◌%◌, ◌^◌}
 use Rattle.small_laws.proofs.Options.{same_some}
 use Rattle.small_laws.proofs.Comparisons.{eqb-self}
-use Rattle.module_format.specs.Contents.{Contents, Par, Branch}
+use Rattle.module_format.specs.Contents.{Contents, Par}
 use Rattle.module_format.specs.Keeping as formats
 use Rattle.certificate.specs.Branches.{numbered_branch}
-use Rattle.certificate.specs.Rights.{is_among}
 use Rattle.machine_state.specs.declared.process.Condition.TheVariants.{Ready}
 use Rattle.machine_state.specs.declared.process.Task.{Task}
 use Rattle.machine_state.specs.BranchContexts.{context_of}
@@ -31,12 +30,13 @@ use Rattle.share_laws.specs.Climbing.{LieAlike}
 use Rattle.share_laws.specs.Shares as shares
 use Rattle.share_laws.specs.Shares.{IsLaidOut}
 use Rattle.share_laws.specs.Starts.{IsLeft}
-use Rattle.share_laws.specs.Taking.{IsScheduling, OpenerKeeps, memory_after_start}
+use Rattle.share_laws.specs.Taking.{OpenerKeeps, memory_after_start}
 use Rattle.share_laws.proofs.BranchLent.{branches_are_lent}
 use Rattle.share_laws.proofs.TakenWords.{starts_keep_openers}
 use Rattle.certified_worlds.specs.Point.{Began, Point}
 use Rattle.certified_worlds.specs.Pending.{IsStarter, HasMember, IsOut, AfterPar, Pending, IsMember}
 use Rattle.certified_worlds.proofs.BehindKeeps.{behind_keeps}
+use Rattle.certified_worlds.proofs.JoinChanges.{after_as, member_as, out_as, out_from, scheduled_out}
 
 -- ---- members
 
@@ -82,26 +82,12 @@ is_one_more m j n found new at row = record {
 -- what the opener goes on with is the same
 abbrev pub after_next : {m : Contents} {j next : Join} {new due : ℕ} → IsOneMore j next new → AfterPar m j due
     → AfterPar m next due
-after_next {m = m} more after = record {
-  par = after.par;
-  row = ap (λ (n : ℕ). slice_get m.pars n) more.row ∙ after.row;
-  label = after.label;
-  at = after.at;
-  context = after.context;
-  depth = after.depth;
-  registers = after.registers;
-  hidden = after.hidden;
-  alone = after.alone;
-  act = after.act;
-  callers = after.callers;
-  laid = record {
-    origin = ap pos more.base ∙ after.laid.origin;
-    named = λ k names low. ap (λ (addresses : List (Option ℕ)). address_of addresses k) more.parameters
-        ∙ after.laid.named k names low;
-  };
-  block = more.block ∙ after.block;
-  paid = after.paid;
-}
+after_next {m = m} {next = next} more after =
+    after_as after next (ap (λ (n : ℕ). slice_get m.pars n) more.row ∙ after.row) (record {
+      origin = ap pos more.base ∙ after.laid.origin;
+      named = λ k names low. ap (λ (addresses : List (Option ℕ)). address_of addresses k) more.parameters
+          ∙ after.laid.named k names low;
+    }) (more.block ∙ after.block)
 
 -- ---- the process that starts
 
@@ -209,42 +195,12 @@ module _ {m : Contents} {own : Holding} {o : ℕ} {began : Began} {all : List Be
 
     -- what was out is out
     out_still : (k : ℤ) → IsOut m o all after.par j k → IsOut m o every after.par next k
-    out_still k out = record {
-      number = out.number;
-      branch = out.branch;
-      here = out.here;
-      writes = out.writes;
-      is_out = elim out.is_out [
-        | inl unstarted ↦ elim (cases_lt found.number out.number) [
-          | inl later ↦ inl (let started = more.started in omega (arith, later, number, started))
-          | inr low ↦
-              let same : found.number ≡ out.number = omega (arith, unstarted, low, number) in
-              inr (subst (λ (b : Branch). HasMember m o every after.par next b)
-              (same_some (slice_get after.par.branches out.number) found.branch out.branch
-              (subst (λ (n : ℕ). slice_get after.par.branches n ≡ Some found.branch) same here_now) out.here)
-              is_member_now)
-        ]
-        | inr x ↦ inr (record {
-          process = x.process;
-          other = x.other;
-          start = x.start;
-          has_start = grows x.process x.start x.has_start;
-          member = more.members x.process x.member;
-          is = x.is;
-        })
-      ];
-    }
-
-    -- so are the words that scheduling takes
-    scheduled_out : (k : ℤ) → IsScheduling found k → IsOut m o every after.par next k
-    scheduled_out k scheduled = record {
-      number = found.number;
-      branch = found.branch;
-      here = here_now;
-      writes = subst (λ (z : ℤ). is_among found.branch.writes z ≡ true) (sym scheduled.is)
-          (left.scheduling scheduled.n scheduled.low);
-      is_out = inr is_member_now;
-    }
+    out_still k out = out_as out (λ is_out. elim is_out [
+      | inl unstarted ↦ out_from found here_now is_member_now
+          (let started = more.started in omega (arith, number, started)) out.number out.branch out.here
+          (omega (arith, number, unstarted))
+      | inr x ↦ inr (member_as x (grows x.process x.start x.has_start) (more.members x.process x.member))
+    ])
 
     pub start_leaves : Pending m own o began every new_memory next due (after_next more after)
     start_leaves = record {
@@ -254,5 +210,6 @@ module _ {m : Contents} {own : Holding} {o : ℕ} {began : Began} {all : List Be
       behind = behind_keeps start_keeps pending.behind;
       words = λ k reads hides free. means_same
           (pending.words k reads hides (λ out. free (out_still k out))) refl
-          (sym (opener_keeps.others k (λ scheduled. free (scheduled_out k scheduled))));
+          (sym (opener_keeps.others k (λ scheduled. free
+          (scheduled_out found here_now is_member_now left k scheduled))));
     }

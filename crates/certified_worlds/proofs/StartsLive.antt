@@ -26,7 +26,7 @@ use Rattle.certified_worlds.proofs.EndsAreInOrder.{after_procedures}
 use Rattle.certified_worlds.proofs.GivenStates.{is_given, given_label, label_is_start}
 use Rattle.certified_worlds.proofs.LivesAs.{LivesAs}
 use Rattle.certified_worlds.proofs.StartsKeepPars.{began_by}
-use Rattle.certified_worlds.proofs.Steps.{enter, lives_at}
+use Rattle.certified_worlds.proofs.Steps.{enter, lives_at, point_between}
 
 -- ---- the mode of a start
 
@@ -66,28 +66,11 @@ module _ (m : Contents) (d : Decodes m) (wf : IsWellFormed m) (c : IsCertified m
       let entered = enter m d wf c h machine_modes.Starting act at s r low in
       let st = subst (λ (state : State). state_at m at (Some s) ≡ Some state)
       (entered.stays (not_plain s.mode row started mode)).0 entered.stands in
-      let holds = c.holds.each at (Some s) low r in
       record {
         state_is = refl;
         act_is = refl;
         lives = record {
-          point = record {
-            before = Some s;
-            state = s;
-            reached = r;
-            stands = st;
-            instr = holds.instr;
-            taken = 0;
-            reading = record {
-              fuel = 8;
-              whole = refl;
-              at_is = omega arith;
-              spelled = holds.spelled;
-              rest = d.reads at holds.instr holds.spelled;
-            };
-            act = act;
-            callers = callers;
-          };
+          point = point_between m d wf c l.registers machine_modes.Starting Ready act at (Some s) s callers r low st;
           claim = λ later size agree bytes. record {
             here = elsewhere at at (pos 0) (after_agrees later size (λ place e. agree place e refl) after);
             behind = unasked m h began s.mode row started s.context act.layout later callers mode;

@@ -446,40 +446,54 @@ module _ (m : Contents) (d : Decodes m) (wf : IsWellFormed m) (c : IsCertified m
       → scope_in m s layout ≡ scope_of m s.context layout
   whole_scope s layout still = scope_still m s.context s.mode layout still
 
+  -- a point between two instructions, with nothing read of the next one
+  abbrev pub point_between : (registers : Registers) (mode : machine.Mode) (condition : Condition) (act : Activation)
+      (at : ℕ) (before : Option State) (s : State) (callers : List Caller) → Reaches m at before → at < length m.code
+      → state_at m at before ≡ Some s
+      → Point m (record { registers = between at registers; mode = mode; condition = condition })
+  point_between registers mode condition act at before s callers r low st =
+      let holds = c.holds.each at before low r in
+      record {
+        before = before;
+        state = s;
+        reached = r;
+        stands = st;
+        instr = holds.instr;
+        taken = 0;
+        reading =
+            record {
+              fuel = 8;
+              whole = refl;
+              at_is = omega arith;
+              spelled = holds.spelled;
+              rest = d.reads at holds.instr holds.spelled;
+            };
+        act = act;
+        callers = callers;
+      }
+
+  -- a process that lives there
+  abbrev LivesBetween : Holding → Began → machine.Mode → Activation → ℕ → State → Local → List Caller → Condition
+      → Type 0
+  LivesBetween h began mode act at s l callers condition =
+      LivesAs m h began l.memory (record {
+        registers = between at l.registers;
+        mode = mode;
+        condition = condition;
+      }) (owed s act + owed_behind callers) s act
+
   -- between two instructions, in whatever condition
   lives_while : (h : Holding) (began : Began) (mode : machine.Mode) (act : Activation) (at : ℕ) (before : Option State)
       (s : State) (l : Local) (callers : List Caller) (condition : Condition) → Reaches m at before
       → at < length m.code → state_at m at before ≡ Some s → is_starting s.mode ≡ false
       → Meanwhile h began mode act s l condition → Behind m h began s.context act.layout l.memory callers
-      → LivesAs m h began l.memory (record {
-        registers = between at l.registers;
-        mode = mode;
-        condition = condition;
-      }) (owed s act + owed_behind callers) s act
+      → LivesBetween h began mode act at s l callers condition
   lives_while h began mode act at before s l callers condition r low st still meanwhile behind =
-      let holds = c.holds.each at before low r in
       record {
         state_is = refl;
         act_is = refl;
         lives = record {
-          point = record {
-            before = before;
-            state = s;
-            reached = r;
-            stands = st;
-            instr = holds.instr;
-            taken = 0;
-            reading =
-                record {
-                  fuel = 8;
-                  whole = refl;
-                  at_is = omega arith;
-                  spelled = holds.spelled;
-                  rest = d.reads at holds.instr holds.spelled;
-                };
-            act = act;
-            callers = callers;
-          };
+          point = point_between l.registers mode condition act at before s callers r low st;
           claim = λ later size agree bytes. record {
             here = elsewhere at at (pos 0) (meanwhile.after later size agree bytes);
             behind = behind_as {m = m} {h = h} {began = began} s.mode {context = s.context} {layout = act.layout}
@@ -511,11 +525,7 @@ module _ (m : Contents) (d : Decodes m) (wf : IsWellFormed m) (c : IsCertified m
       → (condition ≡ Ready) ⊎ (condition ≡ Alternating) → Reaches m at before → at < length m.code
       → state_at m at before ≡ Some s → is_starting s.mode ≡ false
       → After m h mode act s l → Behind m h began s.context act.layout l.memory callers
-      → LivesAs m h began l.memory (record {
-        registers = between at l.registers;
-        mode = mode;
-        condition = condition;
-      }) (owed s act + owed_behind callers) s act
+      → LivesBetween h began mode act at s l callers condition
   lives_quietly h began mode act at before s l callers condition quiet r low st still a behind =
       lives_while h began mode act at before s l callers condition r low st still (record {
         after = λ later size agree bytes. after_agrees later size (λ place e. agree place e (none place)) a;

@@ -34,7 +34,7 @@ use Rattle.command_line.specs.Asked.{Asked, compiles, upgrades, verifies, runs, 
 use Rattle.command_line.specs.CommandLine.{path_rule, paths_given, flag_given}
 use Rattle.command_line.specs.CommandLine.{compile_shape, upgrade_shape, subcommand_shape, run_shape, debug_shape, tpm}
 use Rattle.command_line.specs.CommandLine.{named, option_rule, flag_rule, entered_by, unless_faulty, compiled_by}
-use Rattle.command_line.specs.CommandLine.{upgraded_by, debugged_by, taken_for}
+use Rattle.command_line.specs.CommandLine.{upgraded_by, debugged_by, of_module, taken_for}
 
 -- ---- the arguments of a subcommand
 
@@ -432,35 +432,33 @@ upgrade_leaf = leaf upgrade_shape
 path_ours : (name : Text) (index : ℕ) → IsOurs (Some (with_index index (filled (path_rule name))))
 path_ours name index = a_value name None (Some index) 0 true
 
-compile_ours : AllOurs compile_leaf.rules
-compile_ours = (path_ours (codes "SRC") 1, (path_ours (codes "OUT") 2, (the_flag, tt)))
+two_ours : (read written : Text)
+    → AllOurs (with_index 1 (filled (path_rule read)) ∷ with_index 2 (filled (path_rule written)) ∷ help_flag ∷ [])
+two_ours read written = (path_ours read 1, (path_ours written 2, (the_flag, tt)))
 
-source_is_required : IsLeaf (codes "SRC") compile_leaf
-source_is_required = record {
-  ours = compile_ours;
-  misses = λ rows. first_there (is_given (codes "SRC") rows) (is_given (codes "OUT") rows);
-}
+-- a subcommand that requires two paths
+two_required : (read written : Text) (s : Shape) → AllOurs s.rules
+    → ((rows : List Row) → check_fault s rows false
+    ≡ check_kinds false false (not (is_given read rows) || (not (is_given written rows) || false)))
+    → IsLeaf read s × IsLeaf written s
+two_required read written s ours faults = (
+  record {
+    ours = ours;
+    misses = λ rows fault. first_there (is_given read rows) (is_given written rows) (sym (faults rows) ∙ fault);
+  },
+  record {
+    ours = ours;
+    misses = λ rows fault. second_there (is_given read rows) (is_given written rows) (sym (faults rows) ∙ fault);
+  },
+)
 
-out_is_required : IsLeaf (codes "OUT") compile_leaf
-out_is_required = record {
-  ours = compile_ours;
-  misses = λ rows. second_there (is_given (codes "SRC") rows) (is_given (codes "OUT") rows);
-}
+compile_is_leaf : IsLeaf (codes "SRC") compile_leaf × IsLeaf (codes "OUT") compile_leaf
+compile_is_leaf =
+    two_required (codes "SRC") (codes "OUT") compile_leaf (two_ours (codes "SRC") (codes "OUT")) (λ rows. refl)
 
-upgrade_ours : AllOurs upgrade_leaf.rules
-upgrade_ours = (path_ours (codes "OLD") 1, (path_ours (codes "NEW") 2, (the_flag, tt)))
-
-old_is_required : IsLeaf (codes "OLD") upgrade_leaf
-old_is_required = record {
-  ours = upgrade_ours;
-  misses = λ rows. first_there (is_given (codes "OLD") rows) (is_given (codes "NEW") rows);
-}
-
-new_is_required : IsLeaf (codes "NEW") upgrade_leaf
-new_is_required = record {
-  ours = upgrade_ours;
-  misses = λ rows. second_there (is_given (codes "OLD") rows) (is_given (codes "NEW") rows);
-}
+upgrade_is_leaf : IsLeaf (codes "OLD") upgrade_leaf × IsLeaf (codes "NEW") upgrade_leaf
+upgrade_is_leaf =
+    two_required (codes "OLD") (codes "NEW") upgrade_leaf (two_ours (codes "OLD") (codes "NEW")) (λ rows. refl)
 
 option_ours : (name : Text) → IsOurs (Some (filled (option_rule name)))
 option_ours name = a_value name (Some name) None 1 false
@@ -529,22 +527,40 @@ among a b c g d x u =
     (cond x (Some (plain_leaf (codes "explain"))) (cond u (Some upgrade_leaf) None))))))
 
 -- what is asked for where both paths are given
-both_given : (rows : List Row) (source out : Text) → first_of (codes "SRC") rows ≡ Some source
-    → first_of (codes "OUT") rows ≡ Some out → compiled_by rows ≡ Some (compiles source out)
-both_given rows source out is_source is_out =
-    ap (option_and_then (λ s. option_map (compiles s) (first_of (codes "OUT") rows))) is_source
-    ∙ ap (option_map (compiles source)) is_out
-
--- the same of an upgrade
-both_named : (rows : List Row) (old new : Text) → first_of (codes "OLD") rows ≡ Some old
-    → first_of (codes "NEW") rows ≡ Some new → upgraded_by rows ≡ Some (upgrades old new)
-both_named rows old new is_old is_new =
-    ap (option_and_then (λ s. option_map (upgrades s) (first_of (codes "NEW") rows))) is_old
-    ∙ ap (option_map (upgrades old)) is_new
+both_given : (ask : Text → Text → Asked) (read_name written_name : Text) (rows : List Row) (read written : Text)
+    → first_of read_name rows ≡ Some read → first_of written_name rows ≡ Some written
+    → option_and_then (λ r. option_map (ask r) (first_of written_name rows)) (first_of read_name rows)
+    ≡ Some (ask read written)
+both_given ask read_name written_name rows read written is_read is_written =
+    ap (option_and_then (λ r. option_map (ask r) (first_of written_name rows))) is_read
+    ∙ ap (option_map (ask read)) is_written
 
 -- the rows that a subcommand has at its words
 abbrev rows_of_leaf : Shape → List Text → List Row
 rows_of_leaf s words = rows_after s.rules [] words
+
+-- what a subcommand that requires two paths asks for
+two_given : (ask : Text → Text → Asked) (read_name written_name : Text) (s : Shape) (words : List Text)
+    → IsLeaf read_name s × IsLeaf written_name s → level_fault s [] nothing_held words false [] ≡ []
+    → (asked : Asked) × (option_and_then (λ r. option_map (ask r) (first_of written_name (rows_of_leaf s words)))
+    (first_of read_name (rows_of_leaf s words)) ≡ Some asked)
+two_given ask read_name written_name s words required fault =
+    let read = path_given read_name s words required.0 fault in
+    let written = path_given written_name s words required.1 fault in (
+      ask read.0 written.0,
+      both_given ask read_name written_name (rows_of_leaf s words) read.0 written.0 read.1 written.1,
+    )
+
+-- what a subcommand that asks one thing of the module of its path asks for
+one_given : (name : Text) (ask : Text → Asked) (words : List Text)
+    → ((path : Text) → named name (rows_of_leaf (plain_leaf name) words) path ≡ Some (ask path))
+    → level_fault (plain_leaf name) [] nothing_held words false [] ≡ []
+    → (asked : Asked) × (of_module name (rows_of_leaf (plain_leaf name) words) ≡ Some asked)
+one_given name ask words asks fault =
+    let path = path_given (codes "MOD") (plain_leaf name) words (plain_is_leaf name) fault in (
+      ask path.0,
+      ap (option_and_then (named name (rows_of_leaf (plain_leaf name) words))) path.1 ∙ asks path.0,
+    )
 
 entered_given : (stop : Option (Text × List Text)) → entered_fault (built tpm) stop ≡ []
     → is_some (entered (built tpm) stop) ≡ true
@@ -560,13 +576,9 @@ entered_given (Some p) fault is = go (answers_to p.0 (codes "compile", [])) (ans
         → (asked : Asked)
         × (option_and_then entered_by (option_map (λ s. rows_at s p.1) (among a b c g d x u)) ≡ Some asked)
     go true b c g d x u f e =
-        let source = path_given (codes "SRC") compile_leaf p.1 source_is_required f in
-        let out = path_given (codes "OUT") compile_leaf p.1 out_is_required f in
-        (compiles source.0 out.0, both_given (rows_of_leaf compile_leaf p.1) source.0 out.0 source.1 out.1)
+        two_given compiles (codes "SRC") (codes "OUT") compile_leaf p.1 compile_is_leaf f
     go false true c g d x u f e =
-        let path = path_given (codes "MOD") (plain_leaf (codes "verify")) p.1 (plain_is_leaf (codes "verify")) f in
-        let rows = rows_of_leaf (plain_leaf (codes "verify")) p.1 in
-        (verifies path.0, ap (option_and_then (named (codes "verify") rows)) path.1)
+        one_given (codes "verify") verifies p.1 (λ path. refl) f
     go false false true g d x u f e =
         let path = path_given (codes "MOD") run_leaf p.1 run_is_leaf f in
         let rows = rows_of_leaf run_leaf p.1 in (
@@ -582,17 +594,11 @@ entered_given (Some p) fault is = go (answers_to p.0 (codes "compile", [])) (ans
               (first_of (codes "bytes") rows) (flag_given (codes "trace") rows))) path.1,
         )
     go false false false false true x u f e =
-        let path = path_given (codes "MOD") (plain_leaf (codes "list")) p.1 (plain_is_leaf (codes "list")) f in
-        let rows = rows_of_leaf (plain_leaf (codes "list")) p.1 in
-        (lists path.0, ap (option_and_then (named (codes "list") rows)) path.1)
+        one_given (codes "list") lists p.1 (λ path. refl) f
     go false false false false false true u f e =
-        let path = path_given (codes "MOD") (plain_leaf (codes "explain")) p.1 (plain_is_leaf (codes "explain")) f in
-        let rows = rows_of_leaf (plain_leaf (codes "explain")) p.1 in
-        (explains path.0, ap (option_and_then (named (codes "explain") rows)) path.1)
+        one_given (codes "explain") explains p.1 (λ path. refl) f
     go false false false false false false true f e =
-        let old = path_given (codes "OLD") upgrade_leaf p.1 old_is_required f in
-        let new = path_given (codes "NEW") upgrade_leaf p.1 new_is_required f in
-        (upgrades old.0 new.0, both_named (rows_of_leaf upgrade_leaf p.1) old.0 new.0 old.1 new.1)
+        two_given upgrades (codes "OLD") (codes "NEW") upgrade_leaf p.1 upgrade_is_leaf f
     go false false false false false false false f e = absurd (cc)
 
 -- a subcommand that is not missed is there

@@ -33,13 +33,9 @@ path_of (explains path) = path
 
 -- of a module its verdict and its run want its verdict first
 abbrev pub wants_verdict : Asked → Bool
-wants_verdict (compiles source out) = false
-wants_verdict (upgrades old new) = false
 wants_verdict (verifies path) = true
 wants_verdict (runs path inputs outputs) = true
-wants_verdict (debugs path inputs outputs bytes trace) = false
-wants_verdict (lists path) = false
-wants_verdict (explains path) = false
+wants_verdict _ = false
 
 -- what a question asks of the module in the file of this path
 abbrev pub asked_about : Text → Question → Asked

@@ -1,11 +1,11 @@
 //! The command of the argument parser.
 
 ghost use Rattle.std.specs.Prelude.{◌≡◌, IfOk, false, codes};
-ghost use Rattle.clap.specs.Simple.{app_of, shape_of, with_subcommand};
+ghost use Rattle.clap.specs.Simple.{app_of, new_shape, shape_of, with_subcommand};
 ghost use Rattle.clap.specs.declared.builder.command.Command.TheViews.{out-Command as fields_of};
 ghost use Rattle.command_line.specs.Links.{names_of};
-ghost use Rattle.command_line.specs.CommandLine.{compile_shape, debug_shape, run_shape, subcommand_shape, tpm};
-ghost use Rattle.command_line.specs.CommandLine.{upgrade_shape, with_all_links, with_flag, with_links, with_option};
+ghost use Rattle.command_line.specs.CommandLine.{debug_shape, run_shape, subcommand_shape, tpm};
+ghost use Rattle.command_line.specs.CommandLine.{with_all_links, with_flag, with_links, with_option};
 ghost use Rattle.command_line.specs.CommandLine.{with_path};
 
 use crate::links::{LinkNames, input_names, output_names};
@@ -34,43 +34,6 @@ fn subcommand<'a>(alloc: Global, name: &'a str, about: &'a str) -> Result<Comman
 {
     let subcommand = Command::new(alloc, name).about(about);
     with_path(alloc, subcommand, "MOD", "The path of a module file")
-}
-
-/// The subcommand that compiles a source.
-fn compile_subcommand<'a>(alloc: Global) -> Result<Command<'a>, AllocError>
-    ensures shape { IfOk result (λ c. shape_of c ≡ compile_shape) }
-    ensures local { IfOk result (λ c. (fields_of c).has_globals ≡ false) }
-{
-    let compile = Command::new(alloc, "compile").about("Compiles an occam program to a module");
-    let compile = with_path(alloc, compile, "SRC", "The path of a source")?;
-    with_path(
-        alloc,
-        compile,
-        "OUT",
-        "The path of the module file that is written",
-    )
-}
-
-/// The subcommand that upgrades a module.
-fn upgrade_subcommand<'a>(alloc: Global) -> Result<Command<'a>, AllocError>
-    ensures shape { IfOk result (λ c. shape_of c ≡ upgrade_shape) }
-    ensures local { IfOk result (λ c. (fields_of c).has_globals ≡ false) }
-{
-    let upgrade = Command::new(alloc, "upgrade").about(
-        "Writes a module of version 1 as one of version 2",
-    );
-    let upgrade = with_path(
-        alloc,
-        upgrade,
-        "OLD",
-        "The path of a module file of version 1",
-    )?;
-    with_path(
-        alloc,
-        upgrade,
-        "NEW",
-        "The path of the module file that is written",
-    )
 }
 
 /// A command with one more option, which takes a value.
@@ -213,20 +176,22 @@ fn with_descriptions<'a>(alloc: Global, command: Command<'a>) -> Result<Command<
     )
 }
 
-/// A command with one more subcommand, which runs a module.
-fn with_run<'a>(alloc: Global, command: Command<'a>) -> Result<Command<'a>, AllocError>
-    ensures { IfOk result (λ c. app_of c ≡ with_subcommand (app_of command.entry) run_shape) }
+/// A command with one more subcommand, which has the path of a file that is read and of one that is written. The
+/// subcommand and each path are said by a name and the help.
+fn with_two_paths<'a>(
+    alloc: Global,
+    command: Command<'a>,
+    words: (&'a str, &'a str),
+    read: (&'a str, &'a str),
+    written: (&'a str, &'a str),
+) -> Result<Command<'a>, AllocError>
+    ensures { let shape = with_path written.entry.0.now (with_path read.entry.0.now (new_shape words.entry.0.now)) in
+        IfOk result (λ c. app_of c ≡ with_subcommand (app_of command.entry) shape) }
 {
-    let run = run_subcommand(alloc)?;
-    command.subcommand(run)
-}
-
-/// A command with one more subcommand, which runs a module or a source and tells what each process waits for.
-fn with_debug<'a>(alloc: Global, command: Command<'a>) -> Result<Command<'a>, AllocError>
-    ensures { IfOk result (λ c. app_of c ≡ with_subcommand (app_of command.entry) debug_shape) }
-{
-    let debug = debug_subcommand(alloc)?;
-    command.subcommand(debug)
+    let subcommand = Command::new(alloc, words.0).about(words.1);
+    let subcommand = with_path(alloc, subcommand, read.0, read.1)?;
+    let subcommand = with_path(alloc, subcommand, written.0, written.1)?;
+    command.subcommand(subcommand)
 }
 
 /// A command with two more subcommands, which run modules.
@@ -234,24 +199,9 @@ fn with_runs<'a>(alloc: Global, command: Command<'a>) -> Result<Command<'a>, All
     ensures { IfOk result (λ c. app_of c
         ≡ with_subcommand (with_subcommand (app_of command.entry) run_shape) debug_shape) }
 {
-    let command = with_run(alloc, command)?;
-    with_debug(alloc, command)
-}
-
-/// A command with one more subcommand, which compiles a source.
-fn with_compile<'a>(alloc: Global, command: Command<'a>) -> Result<Command<'a>, AllocError>
-    ensures { IfOk result (λ c. app_of c ≡ with_subcommand (app_of command.entry) compile_shape) }
-{
-    let compile = compile_subcommand(alloc)?;
-    command.subcommand(compile)
-}
-
-/// A command with one more subcommand, which upgrades a module.
-fn with_upgrade<'a>(alloc: Global, command: Command<'a>) -> Result<Command<'a>, AllocError>
-    ensures { IfOk result (λ c. app_of c ≡ with_subcommand (app_of command.entry) upgrade_shape) }
-{
-    let upgrade = upgrade_subcommand(alloc)?;
-    command.subcommand(upgrade)
+    let run = run_subcommand(alloc)?;
+    let debug = debug_subcommand(alloc)?;
+    command.subcommand(run)?.subcommand(debug)
 }
 
 /// The program's command.
@@ -264,9 +214,24 @@ pub fn command<'a>(alloc: Global) -> Result<Command<'a>, AllocError>
         )
         .subcommand_required(true)
         .disable_help_subcommand(true);
-    let tpm = with_compile(alloc, tpm)?;
+    let tpm = with_two_paths(
+        alloc,
+        tpm,
+        ("compile", "Compiles an occam program to a module"),
+        ("SRC", "The path of a source"),
+        ("OUT", "The path of the module file that is written"),
+    )?;
     let tpm = with_subcommand(alloc, tpm, "verify", "Tells whether a module is certified")?;
     let tpm = with_runs(alloc, tpm)?;
     let tpm = with_descriptions(alloc, tpm)?;
-    with_upgrade(alloc, tpm)
+    with_two_paths(
+        alloc,
+        tpm,
+        (
+            "upgrade",
+            "Writes a module of version 1 as one of version 2",
+        ),
+        ("OLD", "The path of a module file of version 1"),
+        ("NEW", "The path of the module file that is written"),
+    )
 }

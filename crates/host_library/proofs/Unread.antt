@@ -48,7 +48,7 @@ unread_for_memory holds memory fault short (Ok x) is = absurd is
 unread_for_memory holds memory fault short (Err failure) is = rw is (rw short memory)
 
 -- a failure that says that memory ran out says no more
-pub memory_alone : {A : Type 0} (result : Result A HostFailure) → IsErrAnd result (λ failure. failure ≡ Memory)
-    → IfErr result (λ failure. failure ≡ Memory)
-memory_alone (Ok x) is = absurd is
-memory_alone (Err failure) is = is
+pub memory_alone : {A : Type 0} (failure : HostFailure) → failure ≡ Memory → (result : Result A HostFailure)
+    → IsErrAnd result (λ told. told ≡ failure) → IfErr result (λ told. told ≡ Memory)
+memory_alone failure memory (Ok x) is = absurd is
+memory_alone failure memory (Err told) is = is ∙ memory

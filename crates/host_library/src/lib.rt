@@ -3,6 +3,7 @@
 //! to be.
 #![tactic(auto)]
 
+mod certifying;
 mod effects;
 mod events;
 mod failure;

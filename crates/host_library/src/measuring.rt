@@ -10,13 +10,12 @@ ghost use Rattle.host_library.specs.Failures.{Withholds};
 ghost use Rattle.host_library.specs.Sizes.{AreSizes};
 ghost use Rattle.host_library.specs.declared.failure.HostFailure.TheVariants.{Memory};
 
+use crate::certifying::certified_module;
 use crate::failure::HostFailure;
-use certificate::Module;
 use kept_runs::KeptRun;
 use module_format::Tables;
 use plain_machine::DecodedInstruction;
 use std::alloc::Global;
-use verifier::{not_both, verify};
 
 /// How many bytes a machine takes, as a host reads it.
 #[repr(C)]
@@ -59,8 +58,6 @@ pub fn sizes_of(alloc: Global, bytes: &[u8]) -> Result<HostSizes, HostFailure>
     ensures certified { (m : Contents) → Format bytes.now m → IsCertified m
         → IfErr result (λ failure. failure ≡ Memory) }
 {
-    not_both();
-    let module = Module::read(alloc, bytes)?;
-    verify(alloc, &module)?;
+    let module = certified_module(alloc, bytes)?;
     Ok(sizes_in(module.tables()))
 }

@@ -9,13 +9,12 @@ ghost use Rattle.host_library.specs.Failures.{Withholds};
 ghost use Rattle.host_library.specs.declared.failure.HostFailure.TheVariants.{Memory};
 ghost use Rattle.host_library.specs.Machines.{IsLoaded, IsState};
 
+use crate::certifying::certified_module;
 use crate::effects::HostState;
 use crate::failure::HostFailure;
-use certificate::Module;
 use kept_runs::KeptRun;
 use machine_state::Link;
 use std::alloc::Global;
-use verifier::{not_both, verify};
 
 /// The run of the module in these bytes, if it is certified.
 pub fn loaded_run(alloc: Global, bytes: &[u8]) -> Result<Box<KeptRun>, HostFailure>
@@ -24,9 +23,7 @@ pub fn loaded_run(alloc: Global, bytes: &[u8]) -> Result<Box<KeptRun>, HostFailu
     ensures certified { (m : Contents) → Format bytes.now m → IsCertified m
         → IfErr result (λ failure. failure ≡ Memory) }
 {
-    not_both();
-    let module = Module::read(alloc, bytes)?;
-    verify(alloc, &module)?;
+    let module = certified_module(alloc, bytes)?;
     let run = KeptRun::load(alloc, module.tables())?;
     Ok(Box::new(alloc, run)?)
 }

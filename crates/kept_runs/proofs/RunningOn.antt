@@ -2,6 +2,7 @@
 use Rattle.std.proofs.Common.{◌≡◌, ℕ, zero, suc, ◌+◌, ◌-◌, ◌<◌, ◌≤◌, ◌^◌, ltb, Bool, false, true, Option, Some, None, Ok}
 use Rattle.std.proofs.Common.{ap, arith, refl, subst, sym, ◌∙◌}
 use Rattle.std.proofs.lemmas.Bool.{ltb-true, ltb-false}
+use Rattle.std.specs.Option.{option_map_or}
 use Rattle.module_format.specs.Contents.{Contents}
 use Rattle.machine_state.specs.World.{World, Counters}
 use Rattle.machine_state.specs.Happens.{ran, emitted, taken, kept, busy, acknowledged, ignored, turn}
@@ -25,13 +26,13 @@ use Rattle.kept_runs.specs.declared.running_on.RunStop.TheVariants.{AtLimit, Idl
 -- a Step after which the next one follows has run
 has_run : (r : Reaction) → stop_by r ≡ None → r ≡ reactions.Ran
 has_run reactions.Ran is = refl
-has_run (reactions.Emitted link) is = absurd (cc)
-has_run reactions.Idle is = absurd (cc)
-has_run reactions.Taken is = absurd (cc)
-has_run reactions.Kept is = absurd (cc)
-has_run reactions.Busy is = absurd (cc)
-has_run reactions.Acknowledged is = absurd (cc)
-has_run reactions.Ignored is = absurd (cc)
+has_run _ is = absurd (cc)
+
+-- a run stops after a Step that sent a message as one that sent it
+sends : (r : Reaction) → option_map_or has_emitted (stop_by r) false ≡ is_sent r
+sends reactions.Ran = refl
+sends (reactions.Emitted link) = refl
+sends _ = refl
 
 module _ (m : Contents) where
   -- ---- so many Steps
@@ -106,7 +107,7 @@ module _ (m : Contents) where
   count_in : (now : PlainMachine) (w : World) → AgreesOn m now w → now.counters.executed ≡ w.counters.executed
   count_in now w on = ap (λ (c : Counters). c.executed) on.agrees.counters
 
-  module _ (start now : PlainMachine) (end : ℕ) (still : RunsStill start now end)
+  module _ {start now : PlainMachine} {end : ℕ} (still : RunsStill start now end)
       (less : now.counters.executed < end) where
     -- the Steps before, and those that follow
     module _ (w : World) (here : HasStepped start now end w) where
@@ -150,7 +151,7 @@ module _ (m : Contents) where
           }
 
     -- ---- where the limit is reached
-    module _ (after : PlainMachine) (o : Option Reaction) (none : o ≡ None) (did : GoesBy m now end o after) where
+    module _ {after : PlainMachine} {o : Option Reaction} (none : o ≡ None) (did : GoesBy m now end o after) where
       goes : GoesBy m now end None after
       goes = subst (λ (p : Option Reaction). GoesBy m now end p after) none did
 
@@ -181,7 +182,7 @@ module _ (m : Contents) where
           omega (arith, so, then, count, reached)
 
     -- ---- where a Step did this
-    module _ (after : PlainMachine) (r : Reaction) (o : Option Reaction) (some : o ≡ Some r)
+    module _ {after : PlainMachine} {r : Reaction} {o : Option Reaction} (some : o ≡ Some r)
         (did : GoesBy m now end o after) where
       went_so : GoesBy m now end (Some r) after
       went_so = subst (λ (p : Option Reaction). GoesBy m now end p after) some did
@@ -192,19 +193,9 @@ module _ (m : Contents) where
         went = went_so v on
 
         ran_there : (turn m went.world plain_step).answer ≡ Ok ran
-        ran_there = by r (has_run r none) went.ends.reacts
-          where
-            by : (q : Reaction) → q ≡ reactions.Ran
-                → HasReacted m went.world plain_step q (message_of (is_sent q) after) (AgreesOn m after)
-                → (turn m went.world plain_step).answer ≡ Ok ran
-            by reactions.Ran is did = did.answer
-            by (reactions.Emitted link) is did = absurd (cc)
-            by reactions.Idle is did = absurd (cc)
-            by reactions.Taken is did = absurd (cc)
-            by reactions.Kept is did = absurd (cc)
-            by reactions.Busy is did = absurd (cc)
-            by reactions.Acknowledged is did = absurd (cc)
-            by reactions.Ignored is did = absurd (cc)
+        ran_there =
+            (subst (λ (q : Reaction). HasReacted m went.world plain_step q (message_of (is_sent q) after)
+            (AgreesOn m after)) (has_run r none) went.ends.reacts).answer
 
         quietly_on : RunsQuietly m v (suc went.steps) (happens m went.world plain_step)
         quietly_on = RunsQuietly.goes_on went.steps went.world went.quietly ran_there
@@ -254,24 +245,10 @@ module _ (m : Contents) where
       runs_after = let x = went_so still.runs.0 still.runs.1 in (happens m x.world plain_step, x.ends.reacts.is_shown)
 
       pub has_message : (stop : RunStop) → stop_by r ≡ Some stop → HasMessage (has_emitted stop) after
-      has_message stop is = by r stop is (went_so still.runs.0 still.runs.1).ends.message
-        where
-          by : (q : Reaction) (stop : RunStop) → stop_by q ≡ Some stop → HasMessage (is_sent q) after
-              → HasMessage (has_emitted stop) after
-          by q (Emitted link) is has = sent q is has
-            where
-              sent : (q : Reaction) → stop_by q ≡ Some (Emitted link) → HasMessage (is_sent q) after
-                  → HasMessage true after
-              sent (reactions.Emitted link) is has = has
-              sent reactions.Ran is has = absurd (cc)
-              sent reactions.Idle is has = absurd (cc)
-              sent reactions.Taken is has = absurd (cc)
-              sent reactions.Kept is has = absurd (cc)
-              sent reactions.Busy is has = absurd (cc)
-              sent reactions.Acknowledged is has = absurd (cc)
-              sent reactions.Ignored is has = absurd (cc)
-          by q AtLimit is has = tt
-          by q Idle is has = tt
+      has_message stop is =
+          subst (λ (b : Bool). HasMessage b after) (sym (sends r)
+          ∙ ap (λ (o : Option RunStop). option_map_or has_emitted o false) is)
+          (went_so still.runs.0 still.runs.1).ends.message
 
       module _ (limit : ℕ) (low : end ≤ start.counters.executed + limit) (w : World) (on : AgreesOn m start w) where
         abbrev here : HasStepped start now end w
@@ -348,12 +325,12 @@ module _ (m : Contents) where
         stops_as = stops_by r refl gone.ends.reacts gone.ends.idles
 
   -- all that was asked for
-  pub all_done : (start now : PlainMachine) (end limit : ℕ) → RunsStill start now end
+  pub all_done : {start now : PlainMachine} {end : ℕ} (limit : ℕ) → RunsStill start now end
       → end ≤ now.counters.executed → end ≤ start.counters.executed + limit
       → (end < 2 ^ 64 - 1 → end ≡ start.counters.executed + limit) → (w : World) → AgreesOn m start w
       → HasRunOn m w limit (record { executed = now.counters.executed - start.counters.executed; stop = AtLimit })
       (message_of false now) (AgreesOn m now)
-  all_done start now end limit still reached low high w on =
+  all_done {start} {now} {end} limit still reached low high w on =
       let here = still.on w on in
       let counted = here.counted in
       let most = below_most m here.world here.agrees.runs in

@@ -1,6 +1,7 @@
 -- Links that are asked until a process runs.
 use Rattle.std.proofs.Common.{◌≡◌, ◌⊎◌, inl, inr, ℕ, ◌+◌, ◌<◌, Bool, true, false, cond, not, is_some, is_none, ◌&&◌}
-use Rattle.std.proofs.Common.{List, Option}
+use Rattle.std.proofs.Common.{List, Option, Result}
+use Rattle.std.specs.Prelude.{⊤}
 use Rattle.std.proofs.Common.{Some, None, Err, refl, sym, ap, subst, ◌∙◌, arith}
 use Rattle.module_format.specs.Contents.{Contents}
 use Rattle.machine_state.specs.declared.link.Link.{Link}
@@ -75,56 +76,80 @@ module _ {M R : Type 0} (left : R → Option (List ℕ)) (failed : R → Bool) (
     };
   }
 
-  module _ (m : Contents) (first readers later : List (Option R)) (writers : ByLink Bool) (s : RunMoment) where
-    joined : (t u : RunMoment) → ReadsOn left failed m first readers writers s t
-        → ReadsOn left failed m first later writers t u → ReadsOn left failed m first later writers s u
-    joined t u goes then = record {
-      reads = then.reads;
-      none_failed = then.none_failed;
-      written = then.written ∙ goes.written;
-      count = then.count ∙ goes.count;
-    }
+module _ {R : Type 0} {left : R → Option (List ℕ)} {failed : R → Bool} {m : Contents} {first : List (Option R)}
+    {writers : ByLink Bool} where
+  joined : {readers later : List (Option R)} {s t u : RunMoment} → ReadsOn left failed m first readers writers s t
+      → ReadsOn left failed m first later writers t u → ReadsOn left failed m first later writers s u
+  joined goes then = record {
+    reads = then.reads;
+    none_failed = then.none_failed;
+    written = then.written ∙ goes.written;
+    count = then.count ∙ goes.count;
+  }
 
-    pub led_on : (before after : M) (tally new : Tally) (led : IsLed m first readers writers s before tally)
-        → IsSupplied left failed m first later writers led.moment new (shows after)
-        → IsLed m first later writers s after new
-    led_on before after tally new led supplied = record {
-      moment = supplied.moment;
-      goes = joined led.moment supplied.moment led.goes supplied.goes;
-      is_shown = supplied.is_shown;
-      counts = supplied.counts;
-    }
+-- ---- from there on
 
-    -- asking failed, or the machine stopped of itself
-    pub stops_asking : {S : Type 0} (before : M) (tally new : Tally) (shown : World → Type 0)
-        (stopped : World → S → Type 0) (link : Link) (e : Halt S)
-        → (led : IsLed m first readers writers s before tally)
-        → Supplies left failed m first later writers led.moment link (Err e) new shown stopped
-        → Provides left failed m first later writers s (Err e) new shown stopped
-    stops_asking before tally new shown stopped link (ReadFailed on) led supplies = record {
-      moment = led.moment;
-      written = led.goes.written;
-      fails = subst (λ (l : Link). FailsToRead left failed m first later writers led.moment l) (sym supplies.0)
-          supplies.1;
-    }
-    stops_asking before tally new shown stopped link (WriteFailed on) led supplies = absurd supplies
-    stops_asking before tally new shown stopped link (Stopped stop) led supplies = record {
-      moment = supplies.moment;
-      goes = joined led.moment supplies.moment led.goes supplies.goes;
-      is_shown = supplies.is_shown;
-      counts = supplies.counts;
-    }
+module _ {M R : Type 0} {left : R → Option (List ℕ)} {failed : R → Bool} {contents : M → Contents} {limit : M → ℕ}
+    {shows : M → World → Type 0} {awaits : M → ℕ} {m : Contents} {first readers : List (Option R)}
+    {writers : ByLink Bool} {s : RunMoment} {machine : M} {tally : Tally}
+    (led : IsLed left failed contents limit shows awaits m first readers writers s machine tally)
+    (later : List (Option R)) (new : Tally) where
+  -- what asking this link comes to, where no process is running and the link is the next to be asked
+  pub supplied_there : {S : Type 0} {running : Bool} {n : Contents} (link : Link) (r : Result ⊤ (Halt S))
+      (shown : World → Type 0) (stopped : World → S → Type 0) → n ≡ m
+      → ((w : World) → shows machine w → running ≡ is_running w) → running ≡ false
+      → ((w : World) → shows machine w → Some link ≡ first_link (λ l. wants l w && not (flag_of tally.ended l)))
+      → ((ever : List (Option R)) (on : ByLink Bool) (t : RunMoment) → shows machine t.world
+      → is_running t.world ≡ false → asked t ≡ Some link → IsReadTo left n ever readers on t
+      → NoneFailed failed readers → tally ≡ tally_of t
+      → Supplies left failed n ever later on t link r new shown stopped)
+      → Supplies left failed m first later writers led.moment link r new shown stopped
+  supplied_there link r shown stopped same runs idle next supplies =
+      let t = led.moment in
+      subst (λ (k : Contents). Supplies left failed k first later writers t link r new shown stopped) same
+      (supplies first writers t led.is_shown (sym (runs t.world led.is_shown) ∙ idle)
+      (asked_by_tally t tally (Some link) led.counts (next t.world led.is_shown))
+      (subst (λ (k : Contents). IsReadTo left k first readers writers t) (sym same) led.goes.reads)
+      led.goes.none_failed led.counts)
 
-  -- what is asked ends
-  pub falls : (w v : World) (tally_was tally_is : Tally) (n : ℕ) (machine later : M) (was is : Bool) → was ≡ false
-      → awaits machine ≡ awaited w → awaits later ≡ awaited v → count_open tally_was.ended ≡ n → is ≡ is_running v
-      → ((is_running v ≡ true) ⊎ (awaited v + count_open tally_is.ended < awaited w + n))
-      → cond is 0 (awaits later + count_open tally_is.ended + 1)
-      < cond was 0 (awaits machine + count_open tally_was.ended + 1)
-  falls w v tally_was tally_is n machine later was true idle before after open_was running closer = rw idle (omega
-      arith)
-  falls w v tally_was tally_is n machine later was false idle before after open_was running closer =
-      rw idle (elim closer [
-        | inl runs ↦ let both : false ≡ true = running ∙ runs in absurd (cc)
-        | inr less ↦ omega (arith, less, before, after, open_was)
-      ])
+  pub led_on : (after : M) → IsSupplied left failed m first later writers led.moment new (shows after)
+      → IsLed left failed contents limit shows awaits m first later writers s after new
+  led_on after supplied = record {
+    moment = supplied.moment;
+    goes = joined led.goes supplied.goes;
+    is_shown = supplied.is_shown;
+    counts = supplied.counts;
+  }
+
+  -- asking failed, or the machine stopped of itself
+  pub stops_asking : {S : Type 0} (shown : World → Type 0) (stopped : World → S → Type 0) (link : Link) (e : Halt S)
+      → Supplies left failed m first later writers led.moment link (Err e) new shown stopped
+      → Provides left failed m first later writers s (Err e) new shown stopped
+  stops_asking shown stopped link (ReadFailed on) supplies = record {
+    moment = led.moment;
+    written = led.goes.written;
+    fails = subst (λ (l : Link). FailsToRead left failed m first later writers led.moment l) (sym supplies.0)
+        supplies.1;
+  }
+  stops_asking shown stopped link (WriteFailed on) supplies = absurd supplies
+  stops_asking shown stopped link (Stopped stop) supplies = record {
+    moment = supplies.moment;
+    goes = joined led.goes supplies.goes;
+    is_shown = supplies.is_shown;
+    counts = supplies.counts;
+  }
+
+-- what is asked ends
+pub falls : {M : Type 0} (awaits : M → ℕ) (w v : World) (tally_was tally_is : Tally) (n : ℕ) (machine later : M)
+    (was is : Bool) → was ≡ false → awaits machine ≡ awaited w → awaits later ≡ awaited v
+    → count_open tally_was.ended ≡ n → is ≡ is_running v
+    → ((is_running v ≡ true) ⊎ (awaited v + count_open tally_is.ended < awaited w + n))
+    → cond is 0 (awaits later + count_open tally_is.ended + 1)
+    < cond was 0 (awaits machine + count_open tally_was.ended + 1)
+falls awaits w v tally_was tally_is n machine later was true idle before after open_was running closer =
+    rw idle (omega arith)
+falls awaits w v tally_was tally_is n machine later was false idle before after open_was running closer =
+    rw idle (elim closer [
+      | inl runs ↦ let both : false ≡ true = running ∙ runs in absurd (cc)
+      | inr less ↦ omega (arith, less, before, after, open_was)
+    ])

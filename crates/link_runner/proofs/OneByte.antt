@@ -25,7 +25,7 @@ use Rattle.link_runner.specs.declared.tally.Tally.{Tally}
 use Rattle.link_runner.specs.Counting.{saturated, with_flag, with_count, ended_at, counts_of, tally_of}
 use Rattle.link_runner.specs.Readers.{at_link, flag_at, NoneFailed, SameElsewhere, Takes, EndsRightly}
 use Rattle.link_runner.specs.Readers as readers
-use Rattle.link_runner.specs.Readers.{IsReadTo, IsReadOn, IsThere}
+use Rattle.link_runner.specs.Readers.{IsReadTo, IsReadOn, IsThere, ReadsOn}
 use Rattle.link_runner.specs.Readers.{IsCalled, FailsToRead, count_open, IsSupplied}
 use Rattle.link_runner.proofs.AtLinks.{still_none, now_one}
 use Rattle.link_runner.proofs.ReadOn.{byte_read, end_read, none_read, takes_same, asked_is_open, asked_is_wanted}
@@ -76,9 +76,9 @@ is_there_after m w e stopped is (drives.before_it stops) = readers.behind w e is
 
 -- ---- the link that is asked
 
-module _ {R : Type 0} (left : R → Option (List ℕ)) (failed : R → Bool) (m : Contents)
-    (first before after : List (Option R)) (writers : ByLink Bool) (s : RunMoment) (link : Link)
-    (nobody : is_running s.world ≡ false) (ask : asked s ≡ Some link)
+module _ {R : Type 0} {left : R → Option (List ℕ)} {failed : R → Bool} {m : Contents}
+    {first before : List (Option R)} {writers : ByLink Bool} {s : RunMoment} {link : Link}
+    (after : List (Option R)) (nobody : is_running s.world ≡ false) (ask : asked s ≡ Some link)
     (reads : IsReadTo left m first before writers s) (none : NoneFailed failed before)
     (elsewhere : SameElsewhere before after link) where
   -- a byte
@@ -160,6 +160,14 @@ module _ {R : Type 0} (left : R → Option (List ℕ)) (failed : R → Bool) (m 
     read = with_link link (of_link s.read link + 1) s.read;
   }
 
+  goes_on : (byte : ℕ) → GivesByte byte → ReadsOn left failed m first after writers s (after_byte byte)
+  goes_on byte gives = record {
+    reads = gives.reads_on;
+    none_failed = gives.none_failed;
+    written = refl;
+    count = outside_counts_nothing m s.world (Arrive link byte) refl;
+  }
+
   counted_byte : (byte : ℕ) (tally : Tally)
       → tally ≡ record (tally_of s) { read = with_count link 1 (counts_of s.read) }
       → tally ≡ tally_of (after_byte byte)
@@ -173,12 +181,7 @@ module _ {R : Type 0} (left : R → Option (List ℕ)) (failed : R → Bool) (m 
       → IsReadOn left failed m first after writers s tally (IsThere m stopped)
   supplies_nothing byte tally stopped gives counts stops = record {
     moment = after_byte byte;
-    goes = record {
-      reads = gives.reads_on;
-      none_failed = gives.none_failed;
-      written = refl;
-      count = outside_counts_nothing m s.world (Arrive link byte) refl;
-    };
+    goes = goes_on byte gives;
     is_shown = is_there_after m s.world (Arrive link byte) stopped refl stops;
     counts = counted_byte byte tally counts;
   }
@@ -189,12 +192,7 @@ module _ {R : Type 0} (left : R → Option (List ℕ)) (failed : R → Bool) (m 
       → shown (happens m s.world (Arrive link byte)) → IsSupplied left failed m first after writers s tally shown
   supplies_byte byte limit tally shown gives reached counts is_shown = record {
     moment = after_byte byte;
-    goes = record {
-      reads = gives.reads_on;
-      none_failed = gives.none_failed;
-      written = refl;
-      count = outside_counts_nothing m s.world (Arrive link byte) refl;
-    };
+    goes = goes_on byte gives;
     is_shown = is_shown;
     counts = counted_byte byte tally counts;
     closer = elim (wanted_comes_closer m s.world link byte limit reached (asked_is_wanted s link ask)) [

@@ -132,28 +132,30 @@ module _ {W : Type 0} (written : W → Option (List ℕ)) (failed : W → Bool) 
     put_partly e told = partly e (at_link before link) (at_link after link) refl refl told
 
     module _ (m : Contents) (s : RunMoment) (tally : Tally) (shown : World → Type 0) where
+      -- the message is delivered where the moment after it is this one
+      delivers_at : (t : RunMoment) → delivered m (writers_of before) link message s ≡ t
+          → PutsOn written link (written_if (of_link (writers_of before) link) message) before after
+          → NoneFailed failed after → tally ≡ tally_of t → shown t.world
+          → IsDelivered written failed m link message s before after tally shown
+      delivers_at t same puts none_failed counts is_shown = record {
+        puts = puts;
+        none_failed = none_failed;
+        counts = counts ∙ ap tally_of (sym same);
+        is_shown = subst (λ (u : RunMoment). shown u.world) (sym same) is_shown;
+      }
+
       pub delivers_whole : IsPut → tally ≡ record (tally_of s) {
         written = with_count link (length message) (counts_of (lengths_of s.written));
       }
           → shown (happens m s.world (Acknowledge link))
           → IsDelivered written failed m link message s before after tally shown
       delivers_whole put counts is_shown =
-          let same = delivered_with m (writers_of before) link message s put.there in
-          record {
-            puts = put.puts;
-            none_failed = put.none_failed;
-            counts = counts ∙ (ap (λ (written : Counts). record (tally_of s) { written = written })
-                (counted_message link s.written message) ∙ ap tally_of (sym same));
-            is_shown = subst (λ (t : RunMoment). shown t.world) (sym same) is_shown;
-          }
+          delivers_at _ (delivered_with m (writers_of before) link message s put.there) put.puts put.none_failed
+          (counts ∙ ap (λ (written : Counts). record (tally_of s) { written = written })
+          (counted_message link s.written message)) is_shown
 
       pub delivers_nowhere : IsNobody → tally ≡ tally_of s → shown s.world
           → IsDelivered written failed m link message s before after tally shown
       delivers_nowhere put counts is_shown =
-          let same = delivered_without m (writers_of before) link message s put.nobody in
-          record {
-            puts = put.puts;
-            none_failed = put.none_failed;
-            counts = counts ∙ ap tally_of (sym same);
-            is_shown = subst (λ (t : RunMoment). shown t.world) (sym same) is_shown;
-          }
+          delivers_at s (delivered_without m (writers_of before) link message s put.nobody) put.puts put.none_failed
+          counts is_shown

@@ -10,7 +10,8 @@ use Rattle.machine_state.specs.World.{World}
 use Rattle.machine_state.specs.Happens.{emitted, turn, happens}
 use Rattle.link_runs.specs.ByLink.{ByLink, of_link, for_all}
 use Rattle.link_runs.specs.Driving as drives
-use Rattle.link_runs.specs.Driving.{Quietly, ComesToRest, ComesToEmit, ComesToStop, StopsAt}
+use Rattle.link_runs.specs.Driving.{Quietly, ComesToRest, ComesToEmit, ComesToStop, StopsAt, Proceeds}
+use Rattle.link_runs.specs.declared.driving.Progress.{Progress}
 use Rattle.link_runs.specs.FirstInFirstOut.{RunMoment, beginning, delivered, plain_step, IsOver}
 use Rattle.link_runs.specs.Wanting.{is_running}
 use Rattle.link_runner.specs.declared.report.Outcome.{Outcome}
@@ -237,143 +238,166 @@ module _ {M R W : Type 0} (left : R → Option (List ℕ)) (read_failed : R → 
     pub counts : tally ≡ tally_of moment
     pub count : executed ≡ moment.world.counters.executed
 
-  module _ (m : Contents) (bound : ℕ) (first : List (Option R)) (first_writers : List (Option W)) (machine : M)
-      (readers : List (Option R)) (writers : List (Option W)) (tally : Tally) (executed : ℕ)
-      (driving : IsDriving m bound first first_writers machine readers writers tally executed) where
-    abbrev flags : ByLink Bool
-    flags = writers_of first_writers
+module _ {M R W : Type 0} {left : R → Option (List ℕ)} {read_failed : R → Bool} {written : W → Option (List ℕ)}
+    {write_failed : W → Bool} {contents : M → Contents} {limit : M → ℕ} {shows : M → World → Type 0} {m : Contents}
+    {bound : ℕ} {first : List (Option R)} {first_writers : List (Option W)} {machine : M} {readers : List (Option R)}
+    {writers : List (Option W)} {tally : Tally} {executed : ℕ}
+    (driving : IsDriving left read_failed written write_failed contents limit shows m bound first first_writers machine
+    readers writers tally executed) where
+  abbrev flags : ByLink Bool
+  flags = writers_of first_writers
 
-    -- what `provide` says, of this run
-    pub provides_here : {S : Type 0} (later : List (Option R)) (r : Result Bool (Halt S)) (new : Tally)
-        (shown : World → Type 0) (stopped : World → S → Type 0)
-        → ((ever : List (Option R)) (on : ByLink Bool) (s : RunMoment) → shows machine s.world
-        → IsReadTo left (contents machine) ever readers on s → NoneFailed read_failed readers → tally ≡ tally_of s
-        → Provides left read_failed (contents machine) ever later on s r new shown stopped)
-        → Provides left read_failed m first later flags driving.moment r new shown stopped
-    provides_here later r new shown stopped provides =
-        subst (λ (n : Contents). Provides left read_failed n first later flags driving.moment r new shown stopped)
-        driving.same
-        (provides first flags driving.moment driving.is_shown
-        (subst (λ (n : Contents). IsReadTo left n first readers flags driving.moment) (sym driving.same)
-        driving.driven.reads) driving.driven.no_read_failed driving.counts)
+  -- what `provide` says, of this run
+  pub provides_here : {S : Type 0} (later : List (Option R)) (r : Result Bool (Halt S)) (new : Tally)
+      (shown : World → Type 0) (stopped : World → S → Type 0)
+      → ((ever : List (Option R)) (on : ByLink Bool) (s : RunMoment) → shows machine s.world
+      → IsReadTo left (contents machine) ever readers on s → NoneFailed read_failed readers → tally ≡ tally_of s
+      → Provides left read_failed (contents machine) ever later on s r new shown stopped)
+      → Provides left read_failed m first later flags driving.moment r new shown stopped
+  provides_here later r new shown stopped provides =
+      subst (λ (n : Contents). Provides left read_failed n first later flags driving.moment r new shown stopped)
+      driving.same
+      (provides first flags driving.moment driving.is_shown
+      (subst (λ (n : Contents). IsReadTo left n first readers flags driving.moment) (sym driving.same)
+      driving.driven.reads) driving.driven.no_read_failed driving.counts)
 
-    -- where the loop's body has come to
-    pub record IsAdvanced (machine_after : M) (later : List (Option R)) (after : List (Option W)) (new : Tally) :
-        Type 0 where
-      pub moment : RunMoment
-      pub is_shown : shows machine_after moment.world
-      pub driven : IsDrivenTo left read_failed written write_failed m first first_writers moment later after
-      pub counts : new ≡ tally_of moment
-      pub more : executed < moment.world.counters.executed
+  -- so it is where it says whether a process runs
+  pub provided_here : {later : List (Option R)} {new : Tally} {shown : World → Type 0} {says runs : Bool} → says ≡ runs
+      → ((ever : List (Option R)) (on : ByLink Bool) (s : RunMoment) → shows machine s.world
+      → IsReadTo left (contents machine) ever readers on s → NoneFailed read_failed readers → tally ≡ tally_of s
+      → IsProvided left read_failed (contents machine) ever later on s says new shown)
+      → IsProvided left read_failed m first later flags driving.moment runs new shown
+  provided_here {later} {new} {shown} {says} {runs} is provides =
+      subst (λ (b : Bool). IsProvided left read_failed m first later flags driving.moment b new shown) is
+      (provides_here {S = Unit {0}} later (Ok says) new shown (λ w stop. Unit {0}) provides)
 
-    module _ (later : List (Option R)) (new : Tally) (shown : World → Type 0)
-        (p : IsProvided left read_failed m first later flags driving.moment true new shown) where
-      pub driven_there : IsDrivenTo left read_failed written write_failed m first first_writers p.moment later writers
-      driven_there = provided left read_failed written write_failed m first first_writers driving.moment readers writers
-          driving.driven p.moment later p.goes
+  -- where the loop's body has come to
+  pub record IsAdvanced (machine_after : M) (later : List (Option R)) (after : List (Option W)) (new : Tally) :
+      Type 0 where
+    pub moment : RunMoment
+    pub is_shown : shows machine_after moment.world
+    pub driven : IsDrivenTo left read_failed written write_failed m first first_writers moment later after
+    pub counts : new ≡ tally_of moment
+    pub more : executed < moment.world.counters.executed
 
-      pub driven_on : (v : World) → Quietly m p.moment.world v
-          → IsDrivenTo left read_failed written write_failed m first first_writers (moved_to v p.moment) later writers
-      driven_on v quietly =
-          quieted left read_failed written write_failed m first first_writers p.moment later writers driven_there v
-          quietly
+  module _ {later : List (Option R)} {new : Tally} {shown : World → Type 0}
+      (p : IsProvided left read_failed m first later flags driving.moment true new shown) where
+    pub driven_there : IsDrivenTo left read_failed written write_failed m first first_writers p.moment later writers
+    driven_there = provided left read_failed written write_failed m first first_writers driving.moment readers writers
+        driving.driven p.moment later p.goes
 
-      pub idle_advances : (machine_after : M) → ComesToRest m p.moment.world (shows machine_after)
-          → IsAdvanced machine_after later writers new
-      idle_advances machine_after rest = record {
-        moment = moved_to rest.world p.moment;
-        is_shown = rest.is_shown;
-        driven = driven_on rest.world rest.quietly;
-        counts = p.counts;
+    pub driven_on : (v : World) → Quietly m p.moment.world v
+        → IsDrivenTo left read_failed written write_failed m first first_writers (moved_to v p.moment) later writers
+    driven_on v quietly =
+        quieted left read_failed written write_failed m first first_writers p.moment later writers driven_there v
+        quietly
+
+    -- how far the machine goes on by itself
+    pub proceeds_here : {S : Type 0} {n : Contents} (last : List ℕ) (shown_now : World → Type 0)
+        (stopped : World → S → Type 0) {says progress : Progress} → n ≡ m → says ≡ progress
+        → ((w : World) → shown w → GoesOn n w (Ok says) last shown_now stopped)
+        → Proceeds m p.moment.world (Ok progress) last shown_now stopped
+    proceeds_here {S} {n} last shown_now stopped {says} {progress} same is goes =
+        subst (λ (x : Progress). Proceeds m p.moment.world (Ok x) last shown_now stopped) is
+        (subst (λ (k : Contents). GoesOn k p.moment.world (Ok says) last shown_now stopped) same
+        (goes p.moment.world p.is_shown))
+
+    pub idle_advances : (machine_after : M) → ComesToRest m p.moment.world (shows machine_after)
+        → IsAdvanced machine_after later writers new
+    idle_advances machine_after rest = record {
+      moment = moved_to rest.world p.moment;
+      is_shown = rest.is_shown;
+      driven = driven_on rest.world rest.quietly;
+      counts = p.counts;
+      more =
+          let more = counts_more m p.moment.world rest.world rest.quietly p.runs rest.nobody_runs in
+          let same = p.goes.count in
+          let count = driving.count in
+          omega (arith, more, same, count);
+    }
+
+    module _ {link : Link} {message : List ℕ} {shown_then : World → Type 0}
+        (emits : ComesToEmit m p.moment.world link message shown_then) where
+      abbrev pub at_message : RunMoment
+      at_message = moved_to (happens m emits.world plain_step) p.moment
+
+      pub message_advances : (machine_after : M) (after : List (Option W)) (newest : Tally)
+          → IsDelivered written write_failed m link message at_message writers after newest (shows machine_after)
+          → IsAdvanced machine_after later after newest
+      message_advances machine_after after newest delivers = record {
+        moment = delivered m (writers_of writers) link message at_message;
+        is_shown = delivers.is_shown;
+        driven = message_delivered left read_failed written write_failed m first first_writers
+            (moved_to emits.world p.moment) later writers (driven_on emits.world emits.quietly) link message
+            emits.runs
+            emits.emits after newest (shows machine_after) delivers;
+        counts = delivers.counts;
         more =
-            let more = counts_more m p.moment.world rest.world rest.quietly p.runs rest.nobody_runs in
+            let more =
+            emission_counts m (writers_of writers) p.moment.world emits.world link message at_message emits.quietly
+            emits.emits refl in
             let same = p.goes.count in
             let count = driving.count in
             omega (arith, more, same, count);
       }
 
-      module _ (link : Link) (message : List ℕ) (shown_then : World → Type 0)
-          (emits : ComesToEmit m p.moment.world link message shown_then) where
-        abbrev pub at_message : RunMoment
-        at_message = moved_to (happens m emits.world plain_step) p.moment
+      pub message_stops : {S : Type 0} (after : List (Option W)) (e : Halt S) (newest : Tally)
+          (shown_last : World → Type 0) (stopped : World → S → Type 0)
+          → Delivers written write_failed m link message at_message writers after (Err e) newest shown_last stopped
+          → Drives left read_failed written write_failed m first later first_writers after (Err e) newest shown_last
+          stopped
+      message_stops after e newest shown_last stopped delivers =
+          message_fails left read_failed written write_failed m first first_writers (moved_to emits.world p.moment)
+          later
+          writers (driven_on emits.world emits.quietly) link message emits.runs emits.emits after e newest shown_last
+          stopped delivers
 
-        pub message_advances : (machine_after : M) (after : List (Option W)) (newest : Tally)
-            → IsDelivered written write_failed m link message at_message writers after newest (shows machine_after)
-            → IsAdvanced machine_after later after newest
-        message_advances machine_after after newest delivers = record {
-          moment = delivered m (writers_of writers) link message at_message;
-          is_shown = delivers.is_shown;
-          driven = message_delivered left read_failed written write_failed m first first_writers
-              (moved_to emits.world p.moment) later writers (driven_on emits.world emits.quietly) link message
-              emits.runs
-              emits.emits after newest (shows machine_after) delivers;
-          counts = delivers.counts;
-          more =
-              let more =
-              emission_counts m (writers_of writers) p.moment.world emits.world link message at_message emits.quietly
-              emits.emits refl in
-              let same = p.goes.count in
-              let count = driving.count in
-              omega (arith, more, same, count);
+    -- the machine stops of itself at a Step
+    pub stops_itself : (stopped : World → Type 0) → ComesToStop m p.moment.world stopped
+        → StopsOfItself left read_failed written write_failed m first later first_writers writers new stopped
+    stops_itself stopped stops = by_stop stops.stops
+      where
+        driven_on_it : IsDrivenTo left read_failed written write_failed m first first_writers (moved_to stops.world
+            p.moment)
+            later writers
+        driven_on_it = driven_on stops.world stops.quietly
+
+        by_stop : StopsAt m stops.world plain_step stopped
+            → StopsOfItself left read_failed written write_failed m first later first_writers writers new stopped
+        by_stop (drives.at_fault f told is) = record {
+          moment = moved_to (happens m stops.world plain_step) p.moment;
+          comes = record {
+            reads = fails_next left m first later flags (moved_to stops.world p.moment) f driven_on_it.reads
+                stops.runs told;
+            writes = driven_on_it.writes;
+            is_shown = readers_at.there is;
+            counts = p.counts;
+            no_read_failed = driven_on_it.no_read_failed;
+            no_write_failed = driven_on_it.no_write_failed;
+          };
+        }
+        by_stop (drives.before_it is) = record {
+          moment = moved_to stops.world p.moment;
+          comes = comes_to left read_failed written write_failed m first first_writers (moved_to stops.world p.moment)
+              later writers driven_on_it
+              new (IsThere m stopped) p.counts (readers_at.there is);
         }
 
-        pub message_stops : {S : Type 0} (after : List (Option W)) (e : Halt S) (newest : Tally)
-            (shown_last : World → Type 0) (stopped : World → S → Type 0)
-            → Delivers written write_failed m link message at_message writers after (Err e) newest shown_last stopped
-            → Drives left read_failed written write_failed m first later first_writers after (Err e) newest shown_last
-            stopped
-        message_stops after e newest shown_last stopped delivers =
-            message_fails left read_failed written write_failed m first first_writers (moved_to emits.world p.moment)
-            later
-            writers (driven_on emits.world emits.quietly) link message emits.runs emits.emits after e newest shown_last
-            stopped delivers
+    pub goes_no_further : {S : Type 0} (last : List ℕ) (shown_now : World → Type 0) (stopped : World → S → Type 0)
+        (halt : Halt S) → GoesOn m p.moment.world (Err halt) last shown_now stopped
+        → Drives left read_failed written write_failed m first later first_writers writers (Err halt) new shown_now
+        stopped
+    goes_no_further last shown_now stopped (ReadFailed link) goes = absurd goes
+    goes_no_further last shown_now stopped (WriteFailed link) goes = absurd goes
+    goes_no_further last shown_now stopped (Stopped stop) goes = stops_itself (λ w. stopped w stop) goes
 
-      -- the machine stops of itself at a Step
-      pub stops_itself : (stopped : World → Type 0) → ComesToStop m p.moment.world stopped
-          → StopsOfItself left read_failed written write_failed m first later first_writers writers new stopped
-      stops_itself stopped stops = by_stop stops.stops
-        where
-          driven_on_it : IsDrivenTo left read_failed written write_failed m first first_writers (moved_to stops.world
-              p.moment)
-              later writers
-          driven_on_it = driven_on stops.world stops.quietly
-
-          by_stop : StopsAt m stops.world plain_step stopped
-              → StopsOfItself left read_failed written write_failed m first later first_writers writers new stopped
-          by_stop (drives.at_fault f told is) = record {
-            moment = moved_to (happens m stops.world plain_step) p.moment;
-            comes = record {
-              reads = fails_next left m first later flags (moved_to stops.world p.moment) f driven_on_it.reads
-                  stops.runs told;
-              writes = driven_on_it.writes;
-              is_shown = readers_at.there is;
-              counts = p.counts;
-              no_read_failed = driven_on_it.no_read_failed;
-              no_write_failed = driven_on_it.no_write_failed;
-            };
-          }
-          by_stop (drives.before_it is) = record {
-            moment = moved_to stops.world p.moment;
-            comes = comes_to left read_failed written write_failed m first first_writers (moved_to stops.world p.moment)
-                later writers driven_on_it
-                new (IsThere m stopped) p.counts (readers_at.there is);
-          }
-
-      pub goes_no_further : {S : Type 0} (last : List ℕ) (shown_now : World → Type 0) (stopped : World → S → Type 0)
-          (halt : Halt S) → GoesOn m p.moment.world (Err halt) last shown_now stopped
-          → Drives left read_failed written write_failed m first later first_writers writers (Err halt) new shown_now
-          stopped
-      goes_no_further last shown_now stopped (ReadFailed link) goes = absurd goes
-      goes_no_further last shown_now stopped (WriteFailed link) goes = absurd goes
-      goes_no_further last shown_now stopped (Stopped stop) goes = stops_itself (λ w. stopped w stop) goes
-
-    pub drives_further : (machine_after : M) (later : List (Option R)) (after : List (Option W)) (new : Tally) (count
-        : ℕ)
-        → contents machine_after ≡ m → limit machine_after ≡ bound
-        → (advanced : IsAdvanced machine_after later after new)
-        → count ≡ advanced.moment.world.counters.executed
-        → IsDriving m bound first first_writers machine_after later after new count
-    drives_further machine_after later after new count same most advanced is = record {
+  module _ {machine_after : M} {later : List (Option R)} {after : List (Option W)} {new : Tally}
+      (advanced : IsAdvanced machine_after later after new) (count : ℕ)
+      (is : count ≡ advanced.moment.world.counters.executed) (most : limit machine_after ≡ bound) where
+    pub drives_further : contents machine_after ≡ m
+        → IsDriving left read_failed written write_failed contents limit shows m bound first first_writers
+        machine_after later after new count
+    drives_further same = record {
       same = same;
       most = most;
       moment = advanced.moment;
@@ -383,12 +407,9 @@ module _ {M R W : Type 0} (left : R → Option (List ℕ)) (read_failed : R → 
       count = is;
     }
 
-    pub less_is_left : (machine_after : M) (later : List (Option R)) (after : List (Option W)) (new : Tally) (count : ℕ)
-        → limit machine_after ≡ bound → (advanced : IsAdvanced machine_after later after new)
-        → count ≡ advanced.moment.world.counters.executed
-        → advanced.moment.world.counters.executed ≤ limit machine_after
+    pub less_is_left : advanced.moment.world.counters.executed ≤ limit machine_after
         → limit machine_after - count < limit machine - executed
-    less_is_left machine_after later after new count most advanced is within =
+    less_is_left within =
         let more = advanced.more in
         let before = driving.most in
         omega (arith, more, is, within, most, before)

@@ -1,8 +1,9 @@
 -- The reference machine up to a number of bytes: its Steps, and what comes from outside.
-use Rattle.std.proofs.Common.{◌≡◌, ℕ, ◌+◌, ◌-◌, ◌<◌, ◌≤◌, true, false, List, [], ◌∷◌, ◌++◌, Some, None}
+use Rattle.std.proofs.Common.{◌≡◌, ℕ, ◌+◌, ◌-◌, ◌<◌, ◌≤◌, true, false, List, [], ◌∷◌, ◌++◌, Option, Some, None}
 use Rattle.std.proofs.Common.{Ok, Err, refl, sym, ap, subst, ◌∙◌, arith}
 use Rattle.module_format.specs.Contents.{Contents}
 use Rattle.machine_state.specs.declared.event.Event.{Event}
+use Rattle.machine_state.specs.declared.process.Exchange.{Exchange}
 use Rattle.machine_state.specs.Happens.{Effect, ran, idle, emitted, taken, kept, busy, acknowledged, ignored, Turn}
 use Rattle.machine_state.specs.Happens.{turn}
 use Rattle.machine_state.specs.Happens.{happens, most_executed}
@@ -42,6 +43,10 @@ has_message acts.Kept memory is = tt
 has_message acts.Busy memory is = tt
 has_message acts.Acknowledged memory is = tt
 has_message acts.Ignored memory is = tt
+
+-- a machine in this world, whose last event sent this
+abbrev pub bounded : Contents → World → ℕ → Option Exchange → BoundedExecution
+bounded m w limit message = record { contents = m; world = w; limit = limit; last = bytes_of message w.memory }
 
 -- ---- a world that events lead to
 

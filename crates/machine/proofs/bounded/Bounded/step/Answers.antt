@@ -4,25 +4,16 @@ use Rattle.machine_state.specs.Turn.{Turn}
 use Rattle.link_runs.specs.Driving.{IsReached}
 use Rattle.link_runs.specs.Wanting.{is_running}
 use Rattle.machine.specs.Bounding.{BoundedExecution, bytes_of, StaysThere, HasDone}
-use Rattle.machine.proofs.Bounding.{did}
+use Rattle.machine.proofs.Bounding.{bounded, did}
 use Rattle.machine.proofs.bounded.Bounded.step.Goals as goal
 
 pub returns : goal.returns
 returns g c =
     let inside = c.self.inside in
     let memory = c.advance.new.self.world.memory in
-    let before : BoundedExecution = record {
-      contents = inside.checked.contents;
-      world = inside.checked.world;
-      limit = inside.limit;
-      last = bytes_of inside.message inside.checked.world.memory;
-    } in
-    let after : BoundedExecution = record {
-      contents = c.advance.new.self.contents;
-      world = c.advance.new.self.world;
-      limit = inside.limit;
-      last = bytes_of c.exchange_of-self-inside.result memory;
-    } in
+    let before = bounded inside.checked.contents inside.checked.world inside.limit inside.message in
+    let after =
+    bounded c.advance.new.self.contents c.advance.new.self.world inside.limit c.exchange_of-self-inside.result in
     let reached = subst (λ (b : BoundedExecution). IsReached b.contents b.limit b.world) (sym c.self.view_is)
     c.requires in
     let running : c.running.result ≡ true = search rules in
