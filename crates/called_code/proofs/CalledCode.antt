@@ -1,6 +1,6 @@
 -- Each program that breaks no rule has code, where neither a PAR nor an ALT is in what is called.
 use Rattle.std.proofs.Common.{◌≡◌, ℕ, zero, suc, ◌+◌, ◌-◌, ◌<◌, ◌≤◌, Bool, true, false, cond, nat_eq, List, []}
-use Rattle.std.proofs.Common.{◌∷◌, ◌++◌, length, take, Option, Some, None, inl, inr, refl, sym, ap, subst, ◌∙◌, arith}
+use Rattle.std.proofs.Common.{◌∷◌, ◌++◌, length, take, Some, None, inl, inr, refl, sym, ap, subst, ◌∙◌, arith}
 use Rattle.std.proofs.Math.Seq.{take-append_seam, take-length}
 use Rattle.std.proofs.lemmas.Bool.{eqb-true}
 use Rattle.std.proofs.lemmas.Bool.Decides.{nat_tests}
@@ -10,7 +10,6 @@ use Rattle.std.specs.Prelude.{slice_get}
 use Rattle.occam_parser.specs.Expressions.{Expression}
 use Rattle.occam_parser.specs.Lines.{Constants}
 use Rattle.occam_parser.specs.Blocks.{Procedure, ProgramItem, GlobalConstant, GlobalProcedure, item_line}
-use Rattle.scalar_ranges.specs.declared.bounds.TheConstants.{OUT_OF_RANGE}
 use Rattle.scalar_ranges.specs.Entries as entries
 use Rattle.scalar_ranges.specs.Entries.{Entry}
 use Rattle.scalar_ranges.specs.Moves.{Known, outermost}
@@ -23,12 +22,12 @@ use Rattle.program_uses.specs.InTurn.{in_turn}
 use Rattle.program_uses.specs.Signatures.{Parameter}
 use Rattle.usage_checks.specs.BrokenInTurn.{BreaksInTurn}
 use Rattle.usage_checks.specs.ItemRules as item_rules
-use Rattle.usage_checks.specs.ItemRules.{in_body, Outside, around_in, after_weighing, weighed, after_walk, after_item}
-use Rattle.usage_checks.specs.ItemRules.{after_items, BreaksItem, BreaksNoRule, after_procedure, signature_of}
+use Rattle.usage_checks.specs.ItemRules.{in_body, Outside, around_in, weighed, after_walk, after_item}
+use Rattle.usage_checks.specs.ItemRules.{after_items, BreaksItem, BreaksNoRule, signature_of}
 use Rattle.usage_checks.specs.MainRules.{IsNoMain}
 use Rattle.usage_checks.specs.NameRules.{with_entries}
 use Rattle.usage_checks.specs.Reaching.{AProcess, Comes, in_procedure, Reaches, to_body}
-use Rattle.usage_checks.specs.Sizes.{Measured, measures_of_item}
+use Rattle.usage_checks.specs.Sizes.{measures_of_item}
 use Rattle.usage_checks.proofs.PlacesHold.{Unbroken}
 use Rattle.usage_checks.proofs.RangesStay.{all_but_one}
 use Rattle.code_pieces.specs.declared.operations.TheConstants.{STOP_PROCESS}
@@ -41,8 +40,9 @@ use Rattle.code_generator.specs.Processes.{Site, process_code}
 use Rattle.code_generator.specs.Programs.{in_main, callable, framed, last_item_code, items_code, no_frame, code_of}
 use Rattle.called_code.specs.CalledCode.{ItemHasNoPar, IsCalled, main_is, CalledHaveNoPar, CalledProceduresHaveCode}
 use Rattle.called_code.specs.CalledCode.{ProgramsWithoutParHaveCode}
-use Rattle.called_code.proofs.CodeTogether.{HasCode, found, before_has, closed_has}
-use Rattle.called_code.proofs.OuterNames.{AreStill, constant_still, Keeps, outer_long, body_keeps, procedure_leaves}
+use Rattle.code_generator.proofs.CodeTogether.{HasCode, found, before_has, closed_has}
+use Rattle.code_generator.proofs.ItemsPassed.{still_counted, weighing_keeps, weighing_signs}
+use Rattle.code_generator.proofs.OuterNames.{AreStill, constant_still, Keeps, outer_long, body_keeps, procedure_leaves}
 use Rattle.called_code.proofs.ProcessesWritten.{CallsHave, Ground, standing_at, process_has}
 
 -- ---- procedures that may be called
@@ -201,26 +201,6 @@ calls_have all cs (suc n) g a unbroken plain counted x number less called qs act
         callee_has all cs n g a unbroken plain counted x.0 inner
         (subst (IsCalled all) (sym (eqb-true n number same)) called) qs actuals s keeps
     by_number inner others false other = others (is_below number n other less)
-
--- ---- counting does not end
-
-never_ends : (line : Option ℕ) → Unbroken (item_rules.Ends None line) → line ≡ None
-never_ends None unbroken = refl
-never_ends (Some line) unbroken =
-    absurd (unbroken (record { number = OUT_OF_RANGE; line = line }) (refl, refl))
-
-still_counted : (x : Option ℕ) (ms : List Measured) (o : Outside) → x ≡ None
-    → Unbroken (item_rules.Ends x (after_weighing x ms o).uncounted) → (after_weighing x ms o).uncounted ≡ None
-still_counted (Some line) ms o is unbroken = absurd (cc is)
-still_counted None ms o is unbroken = never_ends _ unbroken
-
-weighing_keeps : (x : Option ℕ) (ms : List Measured) (o : Outside) → (after_weighing x ms o).known ≡ o.known
-weighing_keeps None ms o = refl
-weighing_keeps (Some line) ms o = refl
-
-weighing_signs : (x : Option ℕ) (ms : List Measured) (o : Outside) → (after_weighing x ms o).signatures ≡ o.signatures
-weighing_signs None ms o = refl
-weighing_signs (Some line) ms o = refl
 
 -- ---- items
 

@@ -8,7 +8,7 @@ use Rattle.occam_parser.specs.Lines.{Replicator, Action, Skip, Stop, Assign, Inp
 use Rattle.occam_parser.specs.Blocks.{Process, Declared, Does, Construct, Act, Block, Replicated, Body, One, Part}
 use Rattle.occam_parser.specs.Blocks.{Components, NoComponent, Further, Component, Plain, Chosen, Guarded}
 use Rattle.occam_parser.specs.Blocks.{ProgramItem}
-use Rattle.scalar_ranges.specs.Entries.{Entry}
+use Rattle.scalar_ranges.specs.Entries.{Entry, Procedure, meaning_in}
 use Rattle.scalar_ranges.specs.Environments.{item_at}
 use Rattle.scalar_ranges.specs.Moves.{Known, begin, begin_loop}
 use Rattle.program_uses.specs.Actions.{Around, is_before}
@@ -38,10 +38,11 @@ use Rattle.code_generator.specs.Processes.{process_code, construct_code, body_co
 use Rattle.code_generator.specs.Processes.{placed_choices, placed}
 use Rattle.called_code.specs.CalledCode.{HasNoPar, ConstructHasNoPar, BodyHasNoPar, HaveNoPar, ComponentHasNoPar}
 use Rattle.called_code.specs.CalledCode.{Calls, IsCalled, called_is}
-use Rattle.called_code.proofs.CodeTogether.{HasCode, before_has, then_has, HasProcess, AllHave, ending_has}
-use Rattle.called_code.proofs.CodeTogether.{opening_has, if_has, turns_have, repeated_has, loop_has}
-use Rattle.called_code.proofs.OuterNames.{AreStill, Keeps, declared_keeps, named_keeps, remains_keeps, turned_keeps}
-use Rattle.called_code.proofs.OuterNames.{chosen_keeps, loop_keeps}
+use Rattle.code_generator.proofs.CodeTogether.{HasCode, before_has, then_has, HasProcess, opened_if_has}
+use Rattle.code_generator.proofs.CodeTogether.{repeated_if_has, repeated_has, loop_has}
+use Rattle.code_generator.proofs.EachChoice.{AllAre}
+use Rattle.code_generator.proofs.OuterNames.{AreStill, Keeps, declared_keeps, named_keeps, remains_keeps}
+use Rattle.code_generator.proofs.OuterNames.{turned_keeps, chosen_keeps, loop_keeps}
 
 -- ---- where processes are written
 
@@ -69,6 +70,25 @@ found_below n [] x is = absurd (cc is)
 found_below zero (y ∷ ys) x is = omega arith
 found_below (suc n) (y ∷ ys) x is = let less = found_below n ys x is in omega (arith, less)
 
+-- where the walk comes to an instance, what that names is called
+pub instance_calls : {items : List ProgramItem} {standing : Standing} {first line caller number : ℕ} {name : List ℕ}
+    {actuals : List Expression} {known : Known}
+    → Reaches items standing (AProcess first (Does line (Act (Instance name actuals)))) known
+    → length standing.around.signatures ≡ caller → meaning_in name known.entries ≡ Some (Procedure number)
+    → Calls items caller number
+instance_calls {standing = standing} {first = first} {line = line} {name = name} {actuals = actuals} {known = known}
+    stands in_caller denotes = record {
+      standing = standing;
+      first = first;
+      line = line;
+      name = name;
+      actuals = actuals;
+      known = known;
+      stands = stands;
+      in_caller = in_caller;
+      denotes = denotes;
+    }
+
 -- Only an instance may have no code, and what it names is called, so it has.
 line_has : {items : List ProgramItem} {w : Surroundings} {g : List Entry} → Ground items w g → (pos : Position)
     (first line : ℕ) (action : Action) (s : Site)
@@ -78,17 +98,7 @@ line_has {items} {w} v pos first line (Instance name actuals) s r k =
     let right = places_hold items (standing_at w pos) (AProcess first (Does line (Act (Instance name actuals)))) s.known
     v.unbroken r in
     let h : InstanceHolds w.around.signatures s.known.entries name actuals = right.holds in
-    let called_here : Calls items (length w.around.signatures) h.number = record {
-      standing = standing_at w pos;
-      first = first;
-      line = line;
-      name = name;
-      actuals = actuals;
-      known = s.known;
-      stands = r;
-      in_caller = refl;
-      denotes = h.called;
-    } in
+    let called_here : Calls items (length w.around.signatures) h.number = instance_calls r refl h.called in
     subst (λ m. HasCode (called w m actuals s)) (sym h.called)
     (v.calls h.number (found_below h.number w.around.signatures h.parameters h.known)
     (called_is (length w.around.signatures) h.number v.mine called_here) _ actuals s k)
@@ -146,7 +156,8 @@ placed_has v pos c m is written r k = absurd is
 
 choices_have : {part : Part} {items : List ProgramItem} {w : Surroundings} {g : List Entry} → Ground items w g
     → (pos : Position) (cs : Components part) (k : Known) → IsMadeOf (Mark mark.If) part → AreWritten items w g cs
-    → Come items w pos (Mark mark.If) cs (begin k) → Keeps g k → AllHave (placed_choices w cs (begin k))
+    → Come items w pos (Mark mark.If) cs (begin k) → Keeps g k
+    → AllAre HasProcess (placed_choices w cs (begin k))
 choices_have v pos NoComponent k is written come keeps = tt
 choices_have {w = w} {g = g} v pos (Further cs c) k is written come keeps =
     let m = after_components w.around (Mark mark.If) cs (begin k) in
@@ -167,10 +178,8 @@ block_has : {part : Part} {items : List ProgramItem} {w : Surroundings} {g : Lis
     (if_code s s.frame after (with_opening (with_ending (placed_choices w cs (begun word s.known))))))
 block_has v pos (Mark mark.Seq) cs s after is h written come k = components_have v pos cs s is written come k
 block_has {w = w} v pos (Mark mark.If) cs s after is h written come k =
-    let choices = placed_choices w cs (begin s.known) in
-    let ended = with_ending choices in
-    let have = ending_has choices (choices_have v pos cs s.known is written come k) in
-    if_has s s.frame after (with_opening ended) (opening_has ended.tested ended.ending have.0 have.1)
+    opened_if_has s s.frame after (placed_choices w cs (begin s.known))
+    (choices_have v pos cs s.known is written come k)
 block_has v pos word cs s after is h written come k = absurd h
 
 -- ---- replicators
@@ -230,12 +239,10 @@ repeated_block_has {w = w} {g = g} v pos (Mark mark.If) c r s changed counted af
     let repeats = repeats_of counted s.known.entries false r in
     let start = begun_body (Mark mark.If) changed repeats.happens s.known in
     let choice : ℕ → PlacedChoice = λ n. placed w c (turn_begun w.around (Mark mark.If) r.name c repeats start n) in
-    let turns = in_each_turn choice (times repeats) in
-    if_has s (with_home Nowhere s.frame) after (with_ending turns) (ending_has turns
-    (turns_have choice (times repeats) (λ n less.
+    repeated_if_has s (with_home Nowhere s.frame) after choice (times repeats) (λ n less.
     placed_has v pos c (turn_begun w.around (Mark mark.If) r.name c repeats start n) is written
     (come n (less_by repeats.happens n repeats.turns.count less))
-    (turn_keeps w.around g r.name c repeats changed s.known n v.still is refl less k))))
+    (turn_keeps w.around g r.name c repeats changed s.known n v.still is refl less k))
 repeated_block_has v pos word c r s changed counted after base count is h written come k = absurd h
 
 -- ---- processes

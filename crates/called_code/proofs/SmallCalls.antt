@@ -19,6 +19,7 @@ use Rattle.usage_checks.specs.Reaching.{behind, to_part, to_process}
 use Rattle.code_generator.specs.SmallCode.{copies, calls}
 use Rattle.called_code.specs.CalledCode.{Calls, IsCalled, main_is, called_is}
 use Rattle.called_code.specs.SmallCalls.{LawsApply}
+use Rattle.called_code.proofs.ProcessesWritten.{instance_calls}
 
 calls_break_no_rule : BreaksNoRule calls
 calls_break_no_rule f x = grind (arith, x)
@@ -82,17 +83,7 @@ instance_stands =
     to_process inner (Plain instance) reached part
 
 main_calls : Calls calls 1 0
-main_calls = record {
-  standing = inner;
-  first = length reached.entries;
-  line = 0;
-  name = s;
-  actuals = actuals;
-  known = reached;
-  stands = instance_stands;
-  in_caller = refl;
-  denotes = refl;
-}
+main_calls = instance_calls {line = 0} {name = s} {actuals = actuals} instance_stands refl refl
 
 pub laws_apply : LawsApply
 laws_apply =

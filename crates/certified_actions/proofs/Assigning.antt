@@ -188,6 +188,7 @@ module _ (g : Scene) (top : ℕ) (es : List Entry) (value : Expression) (type : 
 
 pub assignments_fall : AssignmentsFall
 assignments_fall g top es target value before scope x all holds =
-    assign_by g top es value x.type x.bound before scope x.bounded
-    (expressions_tell g top es value (type_of_values x.type) x.bound scope x.words x.typed x.bounded) holds target.name
+    let v = x.valued in
+    assign_by g top es value v.type v.bound before scope v.bounded
+    (expressions_tell g top es value (type_of_values v.type) v.bound scope v.words v.typed v.bounded) holds target.name
     target.subscript x.variable all

@@ -164,11 +164,13 @@ module _ (g : Scene) (top : ℕ) (es : List Entry) (scope : IsScope g top es) (n
       let found = target_found target type is_target target_words in
       let b = bound_found (bound_of es value) range fit.range_is in
       record {
-        type = found.0;
-        bound = b.0;
-        words = words;
-        typed = fit.type_is ∙ ap (λ (t : ExprType). Ok t) (sym found.1);
-        bounded = b.1;
+        valued = record {
+          type = found.0;
+          bound = b.0;
+          words = words;
+          typed = fit.type_is ∙ ap (λ (t : ExprType). Ok t) (sym found.1);
+          bounded = b.1;
+        };
         variable = found.2;
       }
 
@@ -226,11 +228,13 @@ module _ (g : Scene) (top : ℕ) (es : List Entry) (scope : IsScope g top es) (n
       is_channel.type_is in
       let b = bound_found (bound_of es value) range fit.range_is in
       record {
-        type = carried (meaning_in channel.name es);
-        bound = b.0;
-        words = words;
-        typed = fit.type_is ∙ ap (λ (t : ExprType). Ok t) (sym carries);
-        bounded = b.1;
+        valued = record {
+          type = carried (meaning_in channel.name es);
+          bound = b.0;
+          words = words;
+          typed = fit.type_is ∙ ap (λ (t : ExprType). Ok t) (sym carries);
+          bounded = b.1;
+        };
         source = source_ready value type (carried (meaning_in channel.name es)) range carries fit words;
         port = port;
       }

@@ -276,20 +276,17 @@ module _ (g : Scene) (top next w size : ℕ) (es : List Entry) (e : Expression) 
       let start = spread.first in
       let end = spread.last in
       let lies = spread.lies in
-      let up = lies.up in
-      let low = lies.low in
-      let high = lies.high in
       record {
         lo = pos start;
         hi = pos end;
         step = step_by value_type.Byte r;
         addressed = subscript_addressed g.setting (expression_code g.homes es next e) next w all_of.leaf
             (is_small es e) r
-            s (pos start) (pos end) (omega (arith, few, up, low, high)) (lies_near few lies) p value_type.Byte
+            s (pos start) (pos end) (omega (arith, few, lies)) (lies_near few lies) p value_type.Byte
             spread.low spread.high;
         finish = λ z known a b.
             byte_stored g.setting (λ n. n < top) w (words_for value_type.Byte size) z known q ranged b
-            (step_by value_type.Byte r) start end a up low (omega (arith, high));
+            (step_by value_type.Byte r) start end a lies.up lies.low (omega (arith, lies));
       }
 
   other_by : (type : ValueType) (small : Bool) → is_small es e ≡ small → w + words_for type size ≤ top

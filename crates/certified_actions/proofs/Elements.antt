@@ -110,32 +110,29 @@ pub record Spread (type : ValueType) (w size : ℕ) (r : Ends) : Type 0 where
   pub high : pos (4 * w) +ℤ scaled type r.hi ≡ pos last
   pub lies : LiesIn w (words_for type size) first last (more_bytes type).0
 
+-- those that one number and this many more select
+spread_by : (type : ValueType) (w size : ℕ) (r : Ends) (first more : ℕ) → w + words_for type size ≤ MAX_DATA_WORDS
+    → r.lo +ℤ pos 0 ≡ pos first → r.hi +ℤ pos 0 ≡ pos (first + more) → first + more < size → Spread type w size r
+spread_by value_type.Int w size r first more few lo_is hi_is inside = record {
+  first = 4 * (w + first);
+  last = 4 * (w + (first + more));
+  low = omega (arith, ints, lo_is);
+  high = omega (arith, ints, hi_is);
+  lies = record { up = omega arith; low = omega arith; high = omega (arith, inside) };
+}
+spread_by value_type.Byte w size r first more few lo_is hi_is inside = record {
+  first = 4 * w + first;
+  last = 4 * w + (first + more);
+  low = omega (arith, ints, lo_is);
+  high = omega (arith, ints, hi_is);
+  lies = record { up = omega arith; low = omega arith; high = omega (arith, inside) };
+}
+
 pub bytes_spread : (type : ValueType) (w size : ℕ) (r : Ends) → w + words_for type size ≤ MAX_DATA_WORDS
     → Select size (pos 0) r → Spread type w size r
-bytes_spread value_type.Int w size r few select =
+bytes_spread type w size r few select =
     let sel = selected size (pos 0) r select in
-    let lo_is = sel.lo in
-    let hi_is = sel.hi in
-    let inside = sel.inside in
-    record {
-      first = 4 * (w + sel.first);
-      last = 4 * (w + (sel.first + sel.more));
-      low = omega (arith, ints, lo_is);
-      high = omega (arith, ints, hi_is);
-      lies = record { up = omega arith; low = omega arith; high = omega (arith, inside) };
-    }
-bytes_spread value_type.Byte w size r few select =
-    let sel = selected size (pos 0) r select in
-    let lo_is = sel.lo in
-    let hi_is = sel.hi in
-    let inside = sel.inside in
-    record {
-      first = 4 * w + sel.first;
-      last = 4 * w + (sel.first + sel.more);
-      low = omega (arith, ints, lo_is);
-      high = omega (arith, ints, hi_is);
-      lies = record { up = omega arith; low = omega arith; high = omega (arith, inside) };
-    }
+    spread_by type w size r sel.first sel.more few sel.lo sel.hi sel.inside
 
 -- addresses of several words of an array are near, also before a constant is added
 pub words_near : (w size : ℕ) (c : ℤ) (r : Ends) → w + size ≤ MAX_DATA_WORDS → Select size c r

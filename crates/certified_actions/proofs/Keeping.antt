@@ -1,6 +1,6 @@
 -- What a scope says of words stays known where their numbers and loops stay.
 use Rattle.std.proofs.Common.{◌≡◌, ℕ, ◌+◌, ◌-◌, ◌<◌, ◌≤◌, ℤ, pos, ◌+ℤ◌, ◌-ℤ◌, Bool, true, false, List}
-use Rattle.std.proofs.Common.{length, Option, Some, None, refl, sym, ap, subst, ◌∙◌, arith}
+use Rattle.std.proofs.Common.{length, Option, Some, refl, sym, ap, subst, ◌∙◌, arith}
 use Rattle.std.proofs.lemmas.Int.{ints}
 use Rattle.std.proofs.lemmas.Bool.{and_parts}
 use Rattle.small_laws.proofs.Comparisons.{int_le-true, int_lt-true}
@@ -12,9 +12,8 @@ use Rattle.states.specs.declared.span.Leaving.TheVariants.{Widen}
 use Rattle.states.specs.Spans.{is_in_span, on_span}
 use Rattle.states.specs.State.{Facts, Change, changed, is_alone, is_parted}
 use Rattle.local_rules.specs.WordRules.{number_in}
-use Rattle.scalar_ranges.specs.Entries.{Meaning, Constant, Scalar, Array, Channel, Channels, Procedure, Entry}
-use Rattle.line_pieces.specs.Homes as home
-use Rattle.line_pieces.specs.Homes.{Home, Nowhere, Word, Block, Link, Passed}
+use Rattle.scalar_ranges.specs.Entries.{Meaning, Constant, Scalar, Array, Entry}
+use Rattle.line_pieces.specs.Homes.{Home, Word, Block}
 use Rattle.certified_lines.specs.Scopes.{Scene, EachNameHas, IsNumber, AreKnownThere, HoldsScope, IsHousedThere}
 use Rattle.certified_lines.specs.Scopes.{IsScope}
 use Rattle.certified_lines.specs.Scopes.{loop_of}
@@ -27,26 +26,13 @@ use Rattle.certified_actions.specs.Keeping.{WordsThere, NumbersStay, NumbersStay
 
 module _ (g : Scene) (P : ℕ → Type 0) (old new : Facts) (stay : NumbersStay P old new) where
   name_kept : (h : Option Home) (k : Meaning) → WordsThere P h k → AreKnownThere g old h k → AreKnownThere g new h k
-  name_kept None k words is = absurd is
   name_kept (Some h) (Constant type value) words is = is
-  name_kept (Some h) (Channel type) words is = is
-  name_kept (Some h) (Channels type size) words is = is
-  name_kept (Some h) (Procedure number) words is = is
-  name_kept (Some Nowhere) (Scalar kind type range) words is = is
   name_kept (Some (Word w)) (Scalar kind type range) words is = stay.alone w range words is
   name_kept (Some (Block w head)) (Scalar kind type range) words is =
       stay.loops w (loop_of g head range) (loop_of g head range) words.0 words.1 is.0 is.1
-  name_kept (Some (Link n)) (Scalar kind type range) words is = is
-  name_kept (Some (home.Table values)) (Scalar kind type range) words is = is
-  name_kept (Some (Passed w)) (Scalar kind type range) words is = is
-  name_kept (Some Nowhere) (Array kind type size range) words is = is
-  name_kept (Some (Word w)) (Array kind type None range) words is = is
   name_kept (Some (Word w)) (Array kind type (Some size) range) words is =
       λ n less. stay.alone (w + n) full (words n less) (is n less)
-  name_kept (Some (Block w head)) (Array kind type size range) words is = is
-  name_kept (Some (Link n)) (Array kind type size range) words is = is
-  name_kept (Some (home.Table values)) (Array kind type size range) words is = is
-  name_kept (Some (Passed w)) (Array kind type size range) words is = is
+  name_kept h k words is = is
 
   pub numbers_kept : (es : List Entry) → EachNameHas (WordsThere P) g.homes es → HoldsScope g es old
       → HoldsScope g es new
@@ -56,26 +42,13 @@ module _ (g : Scene) (P : ℕ → Type 0) (old new : Facts) (stay : NumbersStay 
 -- the words of names lie before the first free one
 housed_words : (g : Scene) (top : ℕ) (h : Option Home) (k : Meaning) → IsHousedThere g top h k
     → IsHousedThere g top h k → WordsThere (λ n. n < top) h k
-housed_words g top None k housed same = tt
 housed_words g top (Some h) (Constant type value) housed same = tt
-housed_words g top (Some h) (Channel type) housed same = tt
-housed_words g top (Some h) (Channels type size) housed same = tt
-housed_words g top (Some h) (Procedure number) housed same = tt
-housed_words g top (Some Nowhere) (Scalar kind type range) housed same = tt
 housed_words g top (Some (Word w)) (Scalar kind type range) housed same = housed.1
 housed_words g top (Some (Block w head)) (Scalar kind type range) housed same =
     let less = housed.1 in (omega (arith, less), less)
-housed_words g top (Some (Link n)) (Scalar kind type range) housed same = tt
-housed_words g top (Some (home.Table values)) (Scalar kind type range) housed same = tt
-housed_words g top (Some (Passed w)) (Scalar kind type range) housed same = tt
-housed_words g top (Some Nowhere) (Array kind type size range) housed same = tt
-housed_words g top (Some (Word w)) (Array kind type None range) housed same = tt
 housed_words g top (Some (Word w)) (Array kind type (Some size) range) housed same =
     let ends = housed.1 in λ n less. omega (arith, ends, less)
-housed_words g top (Some (Block w head)) (Array kind type size range) housed same = tt
-housed_words g top (Some (Link n)) (Array kind type size range) housed same = tt
-housed_words g top (Some (home.Table values)) (Array kind type size range) housed same = tt
-housed_words g top (Some (Passed w)) (Array kind type size range) housed same = tt
+housed_words g top h k housed same = tt
 
 -- so of each name of a scope
 pub scope_words : (g : Scene) (top : ℕ) (es : List Entry) → IsScope g top es

@@ -1,7 +1,7 @@
 -- What the root may do in a module of pieces without PARs.
-use Rattle.std.proofs.Common.{◌≡◌, ℕ, ◌≤◌, ℤ, pos, negsuc, ◌+ℤ◌, ◌≤ℤ◌, ◌<ℤ◌, true, List, refl, sym, ap, subst}
-use Rattle.std.proofs.Common.{◌∙◌, arith}
-use Rattle.std.specs.Prelude.{neg_ℤ}
+use Rattle.std.proofs.Common.{◌≡◌, ℕ, ◌≤◌, ℤ, pos, negsuc, ◌+ℤ◌, ◌≤ℤ◌, ◌<ℤ◌, ◌<◌, true, List, Some, refl, sym, ap}
+use Rattle.std.proofs.Common.{subst, ◌∙◌, arith}
+use Rattle.std.specs.Prelude.{get_or, neg_ℤ}
 use Rattle.std.proofs.lemmas.Int.{ints}
 use Rattle.std.specs.List.{AllByRecursion}
 use Rattle.std.proofs.Common.{[], ◌∷◌}
@@ -13,11 +13,15 @@ use Rattle.module_format.specs.Contents.{Contents, link_length}
 use Rattle.certificate.specs.Rights.{has_end, may_read_word, may_write_word}
 use Rattle.occam_parser.specs.declared.tree.ValueType.{ValueType}
 use Rattle.occam_parser.specs.declared.tree.ValueType.TheVariants as value_type
+use Rattle.occam_parser.specs.Lines.{Place}
+use Rattle.scalar_ranges.specs.Entries.{Entry, meaning_in}
 use Rattle.program_meaning.specs.Links.{message_length}
 use Rattle.code_pieces.specs.declared.modules.TheConstants.{BASE}
 use Rattle.code_pieces.specs.LaidModule.{Arrangement, laid_module}
 use Rattle.code_pieces.specs.Laying.{words_taken}
 use Rattle.code_pieces.specs.Pieces.{Direct, Piece, TableAddress}
+use Rattle.line_pieces.specs.Actions.{carried, channel_home}
+use Rattle.line_pieces.specs.Homes.{Link}
 use Rattle.placed_code.proofs.OneProcess.{root_has_its_links, root_has_its_words}
 use Rattle.meant_lines.specs.Carrying.{Ground}
 use Rattle.meant_lines.specs.Pushing.{StandsOn}
@@ -26,6 +30,7 @@ use Rattle.certified_lines.specs.Scopes.{Scene}
 use Rattle.certified_lines.specs.StraightRules.{Setting}
 use Rattle.certified_lines.specs.Telling.{AreAllowed, IsAllowed}
 use Rattle.certified_actions.specs.Declaring.{MayUse}
+use Rattle.certified_actions.specs.Exchanging.{IsPort}
 use Rattle.certified_actions.specs.Roots.{RootsAllowTheirPieces, IsRoot, RootsMaySchedule, RootsMayUseWords}
 use Rattle.certified_actions.specs.Roots.{RootsReceive, RootsSend}
 
@@ -103,26 +108,30 @@ end_there : (g : Setting) (ps : List Piece) (labels : ℕ) (links : List ℕ) (a
 end_there g ps labels links a link way root is =
     (λ i. has_end (root.contents i) (root.context i) (record { kind = ends.Link link; direction = way })) ∙ is
 
-pub roots_send : RootsSend
-roots_send g ps labels links a es channel link root out at long = record {
-  link = link;
-  inside = omega (arith, out);
-  at = at;
-  carries = refl;
-  length = ap (λ (m : Contents). link_length m link) root.contents ∙ long;
-  end = end_there g.setting ps labels links a link Out root
-      (root_has_its_links.out ps labels links a root.alone link out
-      (subst (λ (n : ℕ). 1 ≤ n) (sym long) (some_bytes _)));
-}
-
-pub roots_receive : RootsReceive
-roots_receive g ps labels links a es channel link root low few at long = record {
+-- a link is a port, if the root has its end where it has messages
+port_there : (g : Scene) (ps : List Piece) (labels : ℕ) (links : List ℕ) (a : Arrangement) (es : List Entry)
+    (channel : Place) (link : ℕ) (way : Direction) → IsRoot g.setting ps labels links a → link < 8
+    → channel_home g.homes es channel ≡ Some (Link link)
+    → get_or links link 0 ≡ message_length (carried (meaning_in channel.name es))
+    → (1 ≤ get_or links link 0
+    → has_end (laid_module ps labels links a) 0 (record { kind = ends.Link link; direction = way }) ≡ true)
+    → IsPort g es way channel (carried (meaning_in channel.name es))
+port_there g ps labels links a es channel link way root few at long end = record {
   link = link;
   inside = few;
   at = at;
   carries = refl;
   length = ap (λ (m : Contents). link_length m link) root.contents ∙ long;
-  end = end_there g.setting ps labels links a link In root
-      (root_has_its_links.into ps labels links a root.alone link low
-      (subst (λ (n : ℕ). 1 ≤ n) (sym long) (some_bytes _)));
+  end = end_there g.setting ps labels links a link way root
+      (end (subst (λ (n : ℕ). 1 ≤ n) (sym long) (some_bytes _)));
 }
+
+pub roots_send : RootsSend
+roots_send g ps labels links a es channel link root out at long =
+    port_there g ps labels links a es channel link Out root (omega (arith, out)) at long
+    (root_has_its_links.out ps labels links a root.alone link out)
+
+pub roots_receive : RootsReceive
+roots_receive g ps labels links a es channel link root low few at long =
+    port_there g ps labels links a es channel link In root few at long
+    (root_has_its_links.into ps labels links a root.alone link low)

@@ -2,7 +2,7 @@
 use Rattle.std.proofs.Common.{◌≡◌, ℕ, suc, ◌<◌, Bool, true, false, cond, List, [], ◌∷◌, length, nat_eq, Option, Some}
 use Rattle.std.proofs.Common.{None, refl, sym, ap, subst, ◌∙◌}
 use Rattle.std.specs.Prelude.{slice_get, option_and_then}
-use Rattle.std.proofs.lemmas.Bool.{eqb-true}
+use Rattle.std.proofs.lemmas.Bool.{cond_both, eqb-true}
 use Rattle.word_arithmetic.specs.Range.{Ends, IsRange}
 use Rattle.occam_parser.specs.declared.tree.ValueType.{ValueType}
 use Rattle.occam_parser.specs.Lines.{Place}
@@ -86,12 +86,9 @@ changed_is f m name n k es number means same =
 
 at_long : (f : Entry → Entry) (n : ℕ) (es : List Entry) → length (at_number f n es) ≡ length es
 at_long f n [] = refl
-at_long f n (e ∷ es) = by (nat_eq (length es) n) (at_long f n es)
-  where
-    by : (t : Bool) → length (at_number f n es) ≡ length es
-        → length (cond t (f e ∷ es) (e ∷ at_number f n es)) ≡ suc (length es)
-    by true long = refl
-    by false long = ap suc long
+at_long f n (e ∷ es) =
+    cond_both (nat_eq (length es) n) (f e ∷ es) (e ∷ at_number f n es) (λ xs. length xs ≡ suc (length es)) (λ t. refl)
+    (λ t. ap suc (at_long f n es))
 
 -- what holds of each name holds where one is changed of which it holds still
 pub each_changed : (Q : Option Home → Meaning → Type 0) (m : Meaning → Meaning) (hs : List Home) (n : ℕ) (k : Meaning)

@@ -13,9 +13,8 @@ use Rattle.states.specs.declared.known.WordFact.TheVariants.{Alone}
 use Rattle.states.specs.State.{known}
 use Rattle.rulings.specs.Pointers.{are_near}
 use Rattle.occam_parser.specs.declared.tree.ValueType.{ValueType}
-use Rattle.occam_parser.specs.Expressions.{Expression, Alone as OneTerm, Bracketed, Byte, Chained, Converted, Element}
-use Rattle.occam_parser.specs.Expressions.{MostNeg}
-use Rattle.occam_parser.specs.Expressions.{MostPos, Named, Number, Paired, Prefixed, Truth}
+use Rattle.occam_parser.specs.Expressions.{Expression, Alone as OneTerm, Element}
+use Rattle.occam_parser.specs.Expressions.{Named}
 use Rattle.occam_parser.specs.Lines.{Place}
 use Rattle.scalar_ranges.specs.declared.scope.ScalarKind.{ScalarKind}
 use Rattle.scalar_ranges.specs.Bounds.{Bound, bound_of, range_found}
@@ -249,38 +248,21 @@ pub outputs_fall : OutputsFall
 outputs_fall g top es channel value before scope undisturbed x all holds = by value told x.source all
   where
     told : IsTold g top es (λ t. expression_code g.homes es t value) (is_leaf es value) (is_small es value)
-        (type_of_values x.type) x.bound
-    told = expressions_tell g top es value (type_of_values x.type) x.bound scope x.words x.typed x.bounded
+        (type_of_values x.valued.type) x.valued.bound
+    told =
+        expressions_tell g top es value (type_of_values x.valued.type) x.valued.bound scope x.valued.words
+        x.valued.typed x.valued.bounded
 
     by : (v : Expression) → IsTold g top es (λ t. expression_code g.homes es t v) (is_leaf es v) (is_small es v)
-        (type_of_values x.type) x.bound → HasSource g top es x.type v → AreAllowed g
+        (type_of_values x.valued.type) x.valued.bound → HasSource g top es x.valued.type v → AreAllowed g
         (output_code g.homes es top channel v)
         → FallsTo g top es (output_code g.homes es top channel v) before
     by (OneTerm (Named name)) told source =
-        named_sent g top es channel x.type (OneTerm
-        (Named name)) x.bound before scope undisturbed x.port told holds name
+        named_sent g top es channel x.valued.type (OneTerm
+        (Named name)) x.valued.bound before scope undisturbed x.port told holds name
         (home_of g.homes es name) (meaning_in name es) refl refl
     by (OneTerm (Element name e)) told source =
-        element_of_sent g top es channel x.type (OneTerm (Element name e)) x.bound before scope undisturbed x.port told
-        holds name e source
-    by (OneTerm (Number n)) told source =
-        stored_sent g top es channel x.type (OneTerm (Number n)) x.bound before scope undisturbed x.port told holds
-    by (OneTerm (Byte n)) told source =
-        stored_sent g top es channel x.type (OneTerm (Byte n)) x.bound before scope undisturbed x.port told holds
-    by (OneTerm (Truth t)) told source =
-        stored_sent g top es channel x.type (OneTerm (Truth t)) x.bound before scope undisturbed x.port told holds
-    by (OneTerm MostPos) told source =
-        stored_sent g top es channel x.type (OneTerm MostPos) x.bound before scope undisturbed x.port told holds
-    by (OneTerm MostNeg) told source =
-        stored_sent g top es channel x.type (OneTerm MostNeg) x.bound before scope undisturbed x.port told holds
-    by (OneTerm (Bracketed e)) told source =
-        stored_sent g top es channel x.type (OneTerm (Bracketed e)) x.bound before scope undisturbed x.port told holds
-    by (OneTerm (Converted to t)) told source =
-        stored_sent g top es channel x.type (OneTerm
-        (Converted to t)) x.bound before scope undisturbed x.port told holds
-    by (Prefixed op t) told source =
-        stored_sent g top es channel x.type (Prefixed op t) x.bound before scope undisturbed x.port told holds
-    by (Paired op s t) told source =
-        stored_sent g top es channel x.type (Paired op s t) x.bound before scope undisturbed x.port told holds
-    by (Chained op ts) told source =
-        stored_sent g top es channel x.type (Chained op ts) x.bound before scope undisturbed x.port told holds
+        element_of_sent g top es channel x.valued.type (OneTerm (Element name e)) x.valued.bound before scope
+        undisturbed x.port told holds name e source
+    by v told source =
+        stored_sent g top es channel x.valued.type v x.valued.bound before scope undisturbed x.port told holds

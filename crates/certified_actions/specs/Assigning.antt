@@ -16,14 +16,18 @@ use Rattle.certified_lines.specs.Telling.{AreAllowed}
 use Rattle.certified_actions.specs.Keeping.{FallsTo}
 use Rattle.certified_actions.specs.Variables.{IsVariable}
 
--- A value has a type and a bound, and is assigned to a variable of the type.
-pub record IsAssignment (g : Scene) (top : ℕ) (es : List Entry) (target : Place) (value : Expression) : Type 0 where
+-- A value has a type and a bound.
+pub record IsTypedValue (es : List Entry) (value : Expression) : Type 0 where
   pub type : ValueType
   pub bound : Bound
   pub words : has_words value ≡ true
   pub typed : type_of es value ≡ Ok (type_of_values type)
   pub bounded : bound_of es value ≡ Ok bound
-  pub variable : IsVariable g top es target.name type target.subscript
+
+-- It is assigned to a variable of its type.
+pub record IsAssignment (g : Scene) (top : ℕ) (es : List Entry) (target : Place) (value : Expression) : Type 0 where
+  pub valued : IsTypedValue es value
+  pub variable : IsVariable g top es target.name valued.type target.subscript
 
 -- The code of an assignment leads to the scope after it.
 abbrev pub AssignmentsFall : Type 0

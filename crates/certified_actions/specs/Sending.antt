@@ -1,19 +1,17 @@
 -- What outputs leave known: the same of a scope as before.
-use Rattle.std.specs.Prelude.{◌≡◌, ℕ, true, List, Some, Ok}
+use Rattle.std.specs.Prelude.{◌≡◌, ℕ, List, Some}
 use Rattle.word_arithmetic.specs.Range.{Ends}
 use Rattle.module_format.specs.declared.rows.Direction.TheVariants.{Out}
 use Rattle.occam_parser.specs.declared.tree.ValueType.{ValueType}
 use Rattle.occam_parser.specs.Expressions.{Expression, Alone, Element}
 use Rattle.occam_parser.specs.Lines.{Place}
-use Rattle.occam_parser.specs.Words.{has_words}
 use Rattle.scalar_ranges.specs.declared.scope.ArrayKind.{ArrayKind}
-use Rattle.scalar_ranges.specs.Bounds.{Bound, bound_of}
 use Rattle.scalar_ranges.specs.Entries.{Array, Entry, meaning_in}
-use Rattle.scalar_ranges.specs.Types.{type_of, type_of_values}
 use Rattle.line_pieces.specs.Actions.{output_code}
 use Rattle.certified_lines.specs.StraightRules.{Told}
 use Rattle.certified_lines.specs.Scopes.{Scene, HoldsScope, IsScope}
 use Rattle.certified_lines.specs.Telling.{AreAllowed}
+use Rattle.certified_actions.specs.Assigning.{IsTypedValue}
 use Rattle.certified_actions.specs.Exchanging.{IsPort, IsUndisturbed}
 use Rattle.certified_actions.specs.Keeping.{FallsTo}
 use Rattle.certified_actions.specs.Variables.{IsSubscript}
@@ -34,13 +32,9 @@ HasSource g top es type e = Unit {0}
 
 -- The channel is a link, and the value has a bound and the type that it carries.
 pub record IsOutput (g : Scene) (top : ℕ) (es : List Entry) (channel : Place) (value : Expression) : Type 0 where
-  pub type : ValueType
-  pub bound : Bound
-  pub words : has_words value ≡ true
-  pub typed : type_of es value ≡ Ok (type_of_values type)
-  pub bounded : bound_of es value ≡ Ok bound
-  pub source : HasSource g top es type value
-  pub port : IsPort g es Out channel type
+  pub valued : IsTypedValue es value
+  pub source : HasSource g top es valued.type value
+  pub port : IsPort g es Out channel valued.type
 
 -- The code of an output leads to the same scope.
 abbrev pub OutputsFall : Type 0

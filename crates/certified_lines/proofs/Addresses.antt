@@ -1,10 +1,11 @@
 -- What the rules leave that use an address.
-use Rattle.std.proofs.Common.{◌≡◌, ℕ, ℤ, pos, ◌*ℤ◌, Bool, true, false, cond, Result, Ok, refl, ap}
+use Rattle.std.proofs.Common.{◌≡◌, ℕ, ◌-◌, ◌≤◌, ℤ, pos, ◌*ℤ◌, Bool, true, false, cond, Result, Ok, refl, ap}
 use Rattle.std.proofs.lemmas.Bool.{le-ltb}
 use Rattle.module_format.specs.Rows.{Fact}
-use Rattle.module_format.specs.declared.fact.Fact.TheVariants.{Unknown, Number, Pointer, CodeAddress, Loop}
-use Rattle.module_format.specs.declared.fact.Fact.TheVariants.{ReturnAddress}
+use Rattle.module_format.specs.declared.fact.Fact.TheVariants.{Unknown}
 use Rattle.module_format.specs.declared.fact.Region.{Region}
+use Rattle.module_format.specs.declared.fact.Step.{Step}
+use Rattle.module_format.specs.declared.fact.Step.TheVariants.{Byte, Word}
 use Rattle.module_format.specs.Regions.{is_frame}
 use Rattle.module_format.specs.Stack.{mapped}
 use Rattle.machine_state.specs.Instructions.{instruction_of, op_of}
@@ -12,18 +13,19 @@ use Rattle.states.specs.declared.rule.Rule.{Rule}
 use Rattle.states.specs.declared.rule.Rule.TheVariants as rules
 use Rattle.states.specs.declared.span.Leaving.{Leaving}
 use Rattle.states.specs.Spans.{after_change, on_span, is_in_span}
-use Rattle.states.specs.State.{State, forgets, changed}
+use Rattle.states.specs.State.{State, known, forgets, changed}
 use Rattle.rulings.specs.declared.pointers.Pointed.{Pointed}
 use Rattle.rulings.specs.declared.pointers.Bounds.{Bounds}
 use Rattle.rulings.specs.Rulings.{Ruling, Site, breaks, outside_alternation, outside_starts, settles}
-use Rattle.rulings.specs.Rulings.{in_bounds, pays, goes_on}
+use Rattle.rulings.specs.Rulings.{in_bounds, pays, goes_on, falls}
 use Rattle.rulings.specs.Reach.{word_of_byte, words_touched, may_read_bytes, may_write_bytes}
-use Rattle.rulings.specs.Pointers.{pointer_of, bounds_of, reads_bytes, writes_bytes, leaves_words, word_read, byte_read}
+use Rattle.rulings.specs.Pointers.{pointer_of, exact_pointer, bounds_of, constant_of, reads_bytes, writes_bytes}
+use Rattle.rulings.specs.Pointers.{leaves_words, word_read, byte_read}
 use Rattle.local_rules.specs.LocalRules.{local_operation_rule, local_rule}
-use Rattle.local_rules.specs.MemoryRules.{shifted}
+use Rattle.local_rules.specs.MemoryRules.{shifted, element_of, subscripts}
 use Rattle.facts.specs.Rules.{rule, rule_of, instruction_rule, operation_rule}
 use Rattle.certified_lines.specs.StraightRules.{Setting, Told, state_of}
-use Rattle.certified_lines.specs.Instructions.{is_told}
+use Rattle.certified_lines.specs.Instructions.{is_told, with_result}
 use Rattle.certified_lines.specs.Addresses.{with_left, FurtherAddressesAreKnown, SelectedWordsAreKnown}
 use Rattle.certified_lines.specs.Addresses.{SelectedBytesAreKnown, DistantWordsAreKnown, DistantStoresAreKnown}
 use Rattle.certified_lines.specs.Addresses.{LoadedBytesAreKnown, StoredBytesAreKnown}
@@ -31,32 +33,31 @@ use Rattle.certified_lines.proofs.Instructions.{falls_by, uses_told}
 
 -- ---- what is asked of facts is asked of facts that are told
 
-pointer_told : (fact : Fact) (p : Pointed) → pointer_of fact ≡ Ok p → is_told fact ≡ true
-unfolding pointer_of
-pointer_told Unknown p is = absurd (cc)
-pointer_told (Number lo hi) p is = refl
-pointer_told (Pointer region lo hi step) p is = refl
-pointer_told (CodeAddress offset) p is = refl
-pointer_told (Loop base count weight) p is = refl
-pointer_told ReturnAddress p is = refl
+-- Only of a fact that is told something is found.
+abbrev pub NeedsTold : {A : Type 0} → (Fact → Result A Rule) → Type 0
+NeedsTold {A} found = (fact : Fact) (x : A) → found fact ≡ Ok x → is_told fact ≡ true
 
-bounds_told : (fact : Fact) (r : Bounds) → bounds_of fact ≡ Ok r → is_told fact ≡ true
-unfolding bounds_of
-bounds_told Unknown r is = absurd (cc)
-bounds_told (Number lo hi) r is = refl
-bounds_told (Pointer region lo hi step) r is = refl
-bounds_told (CodeAddress offset) r is = refl
-bounds_told (Loop base count weight) r is = refl
-bounds_told ReturnAddress r is = refl
+needs_told : {A : Type 0} (found : Fact → Result A Rule) → ((x : A) → found Unknown ≡ Ok x → ⊥) → NeedsTold found
+needs_told found none Unknown x is = absurd (none x is)
+needs_told found none fact x is = refl
 
-shifted_told : (by : ℤ) (fact result : Fact) → shifted by fact ≡ Ok result → is_told fact ≡ true
-unfolding shifted
-shifted_told by Unknown result is = absurd (cc)
-shifted_told by (Number lo hi) result is = refl
-shifted_told by (Pointer region lo hi step) result is = refl
-shifted_told by (CodeAddress offset) result is = refl
-shifted_told by (Loop base count weight) result is = refl
-shifted_told by ReturnAddress result is = refl
+-- what rules ask of facts
+pub record AskTold : Type 0 where
+  pub pointer : NeedsTold pointer_of
+  pub exact : NeedsTold exact_pointer
+  pub bounds : NeedsTold bounds_of
+  pub constant : NeedsTold constant_of
+  pub shifts : (by : ℤ) → NeedsTold (shifted by)
+
+pub ask_told : AskTold
+unfolding pointer_of exact_pointer bounds_of constant_of shifted
+ask_told = record {
+  pointer = needs_told pointer_of (λ p is. cc);
+  exact = needs_told exact_pointer (λ p is. cc);
+  bounds = needs_told bounds_of (λ r is. cc);
+  constant = needs_told constant_of (λ v is. cc);
+  shifts = λ by. needs_told (shifted by) (λ result is. cc);
+}
 
 -- ---- what rules are made of
 
@@ -98,24 +99,29 @@ left_words g p end leaving t number =
 pub further_addresses_are_known : FurtherAddressesAreKnown
 unfolding rule rule_of instruction_rule local_rule instruction_of outside_starts settles goes_on pays
 further_addresses_are_known g e fact s is =
-    let told = shifted_told (pos 4 *ℤ e) s.stack.a.fact fact is in
+    let told = ask_told.shifts (pos 4 *ℤ e) s.stack.a.fact fact is in
     falls_by (λ at size number pays. rw (uses_told, is, le-ltb number size pays) refl)
 
+subscripts_fall : (g : Setting) (element : Step) (r : Bounds) (p : Pointed) (fact : Fact) (s : Told)
+    (at size number : ℕ) → bounds_of s.stack.b.fact ≡ Ok r → pointer_of s.stack.a.fact ≡ Ok p
+    → element_of element p r ≡ Ok fact → size ≤ number
+    → subscripts element (record { contents = g.contents; at = at; length = size }) (state_of g s number)
+    ≡ falls (state_of g (with_result (known fact) s) (number - size))
+unfolding outside_alternation outside_starts settles goes_on pays
+subscripts_fall g element r p fact s at size number bounds pointer is enough =
+    let a = ask_told.pointer s.stack.a.fact p pointer in
+    let b = ask_told.bounds s.stack.b.fact r bounds in
+    rw (uses_told, uses_told, bounds, pointer, is, le-ltb number size enough) refl
+
 pub selected_words_are_known : SelectedWordsAreKnown
-unfolding rule rule_of instruction_rule operation_rule local_operation_rule instruction_of op_of outside_alternation
-    outside_starts settles goes_on pays
+unfolding rule rule_of instruction_rule operation_rule local_operation_rule instruction_of op_of
 selected_words_are_known g r p fact s bounds pointer is =
-    let a = pointer_told s.stack.a.fact p pointer in
-    let b = bounds_told s.stack.b.fact r bounds in
-    falls_by (λ at size number pays. rw (uses_told, uses_told, bounds, pointer, is, le-ltb number size pays) refl)
+    falls_by (λ at size number pays. subscripts_fall g Word r p fact s at size number bounds pointer is pays)
 
 pub selected_bytes_are_known : SelectedBytesAreKnown
-unfolding rule rule_of instruction_rule operation_rule local_operation_rule instruction_of op_of outside_alternation
-    outside_starts settles goes_on pays
+unfolding rule rule_of instruction_rule operation_rule local_operation_rule instruction_of op_of
 selected_bytes_are_known g r p fact s bounds pointer is =
-    let a = pointer_told s.stack.a.fact p pointer in
-    let b = bounds_told s.stack.b.fact r bounds in
-    falls_by (λ at size number pays. rw (uses_told, uses_told, bounds, pointer, is, le-ltb number size pays) refl)
+    falls_by (λ at size number pays. subscripts_fall g Byte r p fact s at size number bounds pointer is pays)
 
 -- ---- words and bytes
 
@@ -123,34 +129,30 @@ pub distant_words_are_known : DistantWordsAreKnown
 unfolding rule rule_of instruction_rule local_rule instruction_of outside_alternation outside_starts settles word_read
     goes_on pays
 distant_words_are_known g e p s to may =
-    let told = pointer_told s.stack.a.fact to.from to.is in
-    let pointer = to.is in
-    let further = to.further in
+    let told = ask_told.pointer s.stack.a.fact to.from to.is in
     falls_by (λ at size number pays.
-    rw (uses_told, pointer, further, read_open, le-ltb number size pays) refl)
+    rw (uses_told, to.is, to.further, read_open, le-ltb number size pays) refl)
 
 pub distant_stores_are_known : DistantStoresAreKnown
 unfolding rule rule_of instruction_rule local_rule instruction_of outside_alternation outside_starts settles in_bounds
     goes_on pays
 distant_stores_are_known g e p s to b stores may =
-    let a = pointer_told s.stack.a.fact to.from to.is in
-    let pointer = to.is in
-    let further = to.further in
+    let a = ask_told.pointer s.stack.a.fact to.from to.is in
     falls_by (λ at size number pays.
-    rw (uses_told, uses_told, stores, pointer, further, write_open, left_words, le-ltb number size pays) refl)
+    rw (uses_told, uses_told, stores, to.is, to.further, write_open, left_words, le-ltb number size pays) refl)
 
 pub loaded_bytes_are_known : LoadedBytesAreKnown
 unfolding rule rule_of instruction_rule operation_rule local_operation_rule instruction_of op_of outside_alternation
     outside_starts settles byte_read goes_on pays
 loaded_bytes_are_known g p s pointer may =
-    let told = pointer_told s.stack.a.fact p pointer in
+    let told = ask_told.pointer s.stack.a.fact p pointer in
     falls_by (λ at size number pays. rw (uses_told, pointer, read_open, le-ltb number size pays) refl)
 
 pub stored_bytes_are_known : StoredBytesAreKnown
 unfolding rule rule_of instruction_rule operation_rule local_operation_rule instruction_of op_of outside_alternation
     outside_starts settles in_bounds goes_on pays
 stored_bytes_are_known g p s pointer b stores may =
-    let a = pointer_told s.stack.a.fact p pointer in
+    let a = ask_told.pointer s.stack.a.fact p pointer in
     falls_by (λ at size number pays.
     rw (uses_told, uses_told, stores, pointer, write_open, left_words, le-ltb number size pays) refl)
 

@@ -1,5 +1,5 @@
 -- What the code of an operator between two numbers leaves known.
-use Rattle.std.proofs.Common.{◌≡◌, ℕ, ◌≤◌, ℤ, Bool, true, false, ◌&&◌, ◌||◌, List, [], ◌∷◌, ◌++◌, Option, Some}
+use Rattle.std.proofs.Common.{◌≡◌, ℕ, ◌≤◌, ℤ, Bool, true, false, ◌&&◌, List, [], ◌∷◌, ◌++◌, Option, Some}
 use Rattle.std.proofs.Common.{None}
 use Rattle.std.proofs.Common.{FitsSigned, refl, subst, ◌∙◌}
 use Rattle.std.specs.Int.{w32}
@@ -22,6 +22,9 @@ use Rattle.scalar_ranges.specs.Entries.{Entry}
 use Rattle.code_pieces.specs.Pieces.{Piece, Direct, operates}
 use Rattle.line_pieces.specs.Expressions.{Operand, both, comes_last, pushed, unless_added, adds_or, pair_operation}
 use Rattle.line_pieces.specs.Expressions.{added_for, pushes_of}
+use Rattle.placed_code.specs.OperandsName.{IsBinary, IsShift}
+use Rattle.placed_code.proofs.OperandsName.{operands_name}
+use Rattle.placed_code.proofs.OperandsKeep.{kept_of}
 use Rattle.certified_lines.specs.StraightRules.{Setting, Told, FallOn}
 use Rattle.certified_lines.specs.Instructions.{with_a, with_result}
 use Rattle.certified_lines.specs.Scopes.{Scene, HoldsScope, IsScope}
@@ -29,7 +32,6 @@ use Rattle.certified_lines.specs.Telling.{AreAllowed, PushedFact, IsFree, Operan
 use Rattle.certified_lines.specs.OperandLaws.{IsOnly, pair_range, ArithmeticTells}
 use Rattle.certified_lines.proofs.StraightRules.{fall_both}
 use Rattle.certified_lines.proofs.Numbers.{sums_lie_in_ranges, shifts_lie_in_ranges}
-use Rattle.certified_lines.proofs.Named.{Names, NamesShift, operands_name}
 use Rattle.certified_lines.proofs.Ranges.{subtracted}
 use Rattle.certified_lines.proofs.Operands.{both_tell, operations_tell, allowed_first}
 
@@ -63,11 +65,6 @@ pub fewer_kept : (g : Setting) (ps : List Piece) (t : ℕ) (small kept : Bool) (
     → (small ≡ true → kept ≡ true) → PushedFact g ps t false kept r before → PushedFact g ps t false small r before
 fewer_kept g ps t small kept r before further p = less_small g ps t false small kept r before further p
 
-pub kept_of : (small leaf second : Bool) → (small && second) ≡ true → ((small || leaf) && second) ≡ true
-kept_of true leaf true is = refl
-kept_of true leaf false is = absurd (cc is)
-kept_of false leaf second is = absurd (cc is)
-
 pub first_of : (p q : Bool) → (p && q) ≡ true → p ≡ true
 first_of true q is = refl
 first_of false q is = absurd (cc is)
@@ -98,7 +95,7 @@ shift_right_is r s = refl
 module _ (g : Scene) (top t : ℕ) (es : List Entry) (a b : Operand) (r s q : Ends) (before : Told)
     (scope : IsScope g top es) (low : top ≤ t) (few : IsFree t) (x : IsRange r) (y : IsRange s)
     (push_a : OperandTells g es t a r) (push_b : OperandTells g es t b s) (holds : HoldsScope g es before.frame) where
-  binary_tells : (operation : ℤ) (op : Binary) → Names operation op → result_range op r s ≡ Some q
+  binary_tells : (operation : ℤ) (op : Binary) → IsBinary operation op → result_range op r s ≡ Some q
       → AreAllowed g (two t a b ++ operates operation ∷ [])
       → PushedFact g.setting (two t a b ++ operates operation ∷ []) t false (a.small && b.leaf) q before
   binary_tells operation op named gives all =
@@ -107,7 +104,7 @@ module _ (g : Scene) (top t : ℕ) (es : List Entry) (a b : Operand) (r s q : En
       (operations_tell g top t es true a b operation op r s q before scope low few x y push_a push_b named gives
       (λ no. absurd (cc no)) all holds)
 
-  shift_tells : (operation : ℤ) (op : Shift) → NamesShift operation op → shift_range op r s ≡ Some q
+  shift_tells : (operation : ℤ) (op : Shift) → IsShift operation op → shift_range op r s ≡ Some q
       → AreAllowed g (two t a b ++ operates operation ∷ [])
       → PushedFact g.setting (two t a b ++ operates operation ∷ []) t false (a.small && b.leaf) q before
   shift_tells operation op named gives all =
@@ -126,19 +123,12 @@ module _ (g : Scene) (top t : ℕ) (es : List Entry) (a b : Operand) (r s q : En
   both_ranged : (op : ArithmeticPair) → pair_range op r s ≡ Some q
       → AreAllowed g (two t a b ++ operates (pair_operation op) ∷ [])
       → PushedFact g.setting (two t a b ++ operates (pair_operation op) ∷ []) t false (a.small && b.leaf) q before
-  both_ranged arithmetic.Subtract gives all =
-      binary_tells (pair_operation arithmetic.Subtract) binary.Subtract operands_name.subtract gives all
-  both_ranged arithmetic.Divide gives all =
-      binary_tells (pair_operation arithmetic.Divide) binary.Divide operands_name.divide gives all
-  both_ranged arithmetic.Remainder gives all =
-      binary_tells (pair_operation arithmetic.Remainder) binary.Remainder operands_name.remainder gives all
-  both_ranged arithmetic.Minus gives all =
-      binary_tells (pair_operation arithmetic.Minus) binary.Difference operands_name.difference gives all
-  both_ranged arithmetic.ShiftLeft gives all =
-      shift_tells (pair_operation arithmetic.ShiftLeft) shifts.Left operands_name.left (shift_left_is r s ∙ gives) all
-  both_ranged arithmetic.ShiftRight gives all =
-      shift_tells (pair_operation arithmetic.ShiftRight) shifts.Right operands_name.right (shift_right_is r s ∙ gives)
-      all
+  both_ranged arithmetic.Subtract gives all = binary_tells _ _ operands_name.subtract gives all
+  both_ranged arithmetic.Divide gives all = binary_tells _ _ operands_name.divide gives all
+  both_ranged arithmetic.Remainder gives all = binary_tells _ _ operands_name.remainder gives all
+  both_ranged arithmetic.Minus gives all = binary_tells _ _ operands_name.difference gives all
+  both_ranged arithmetic.ShiftLeft gives all = shift_tells _ _ operands_name.left (shift_left_is r s ∙ gives) all
+  both_ranged arithmetic.ShiftRight gives all = shift_tells _ _ operands_name.right (shift_right_is r s ∙ gives) all
 
   -- a constant is added in place of the second operand
   pub sum_tells : (d : ℤ) → FitsSigned w32 d → result_range binary.Add r (ranges.constant d) ≡ Some q
@@ -162,12 +152,7 @@ module _ (g : Scene) (top t : ℕ) (es : List Entry) (a b : Operand) (r s q : En
       let less = subtracted r q c d is
       (subst (λ (e : Ends). result_range binary.Subtract r e ≡ Some q) value gives) in
       sum_tells d less.0 less.1 all
-  by_added (Some d) arithmetic.Subtract None is value gives all = absurd (cc)
-  by_added (Some d) arithmetic.Divide constant is value gives all = absurd (cc)
-  by_added (Some d) arithmetic.Remainder constant is value gives all = absurd (cc)
-  by_added (Some d) arithmetic.Minus constant is value gives all = absurd (cc)
-  by_added (Some d) arithmetic.ShiftLeft constant is value gives all = absurd (cc)
-  by_added (Some d) arithmetic.ShiftRight constant is value gives all = absurd (cc)
+  by_added (Some d) op constant is value gives all = absurd (cc)
 
 pub arithmetic_tells : ArithmeticTells
 arithmetic_tells g top t es op a b known constant r s q before scope low few x y push_a push_b value gives all holds =

@@ -1,10 +1,9 @@
 -- What the code of chains leaves known.
-use Rattle.std.proofs.Common.{◌≡◌, ℕ, ◌+◌, ◌≤◌, ℤ, Bool, true, false, ◌&&◌, ◌||◌, cond, nat_le, List, [], ◌∷◌, ◌++◌}
-use Rattle.std.proofs.Common.{Option, Some, None, FitsSigned, refl, sym, ap, subst, ◌∙◌, arith, append_assoc}
+use Rattle.std.proofs.Common.{◌≡◌, ℕ, ◌+◌, ◌≤◌, ℤ, Bool, true, false, ◌&&◌, ◌||◌, cond, List, [], ◌∷◌, ◌++◌}
+use Rattle.std.proofs.Common.{Option, Some, None, FitsSigned, refl, sym, ap, subst, ◌∙◌, append_assoc}
 use Rattle.std.specs.Prelude.{unwrap_or}
 use Rattle.std.specs.Int.{w32}
 use Rattle.std.specs.Ordering.{int_eq}
-use Rattle.std.proofs.lemmas.Bool.{leb-true, le-leb}
 use Rattle.std.proofs.lemmas.List.{append-nil}
 use Rattle.std.proofs.lemmas.Bool.{and_parts}
 use Rattle.word_arithmetic.specs.Word.{least_word}
@@ -15,6 +14,7 @@ use Rattle.word_arithmetic.specs.Range.{or_range, xor_range}
 use Rattle.word_arithmetic.specs.Binary.{result_range}
 use Rattle.word_arithmetic.specs.declared.binary.Binary.{Binary}
 use Rattle.word_arithmetic.specs.declared.binary.Binary.TheVariants as binary
+use Rattle.machine_state.specs.Instructions.{op_of}
 use Rattle.prefix_decoder.specs.declared.function.Fun.TheVariants as fun
 use Rattle.occam_parser.specs.declared.tree.ChainOperator.{ChainOperator}
 use Rattle.occam_parser.specs.declared.tree.ChainOperator.TheVariants as chain
@@ -30,6 +30,10 @@ use Rattle.code_pieces.specs.Pieces.{Piece, Direct, operates, word_after}
 use Rattle.line_pieces.specs.Expressions.{Operand, beside, term_code, terms_code, covered, are_small, is_small_term}
 use Rattle.line_pieces.specs.Expressions.{is_leaf_term, constant_or, first_two, joined, unless, is_known, added_by}
 use Rattle.line_pieces.specs.Expressions.{adds_or, onto, chain_operation}
+use Rattle.placed_code.specs.OperandsName.{IsBinary}
+use Rattle.placed_code.proofs.OperandsKeep.{kept_of}
+use Rattle.placed_code.proofs.ChainsOperate.{word_operation, commutes, chains_commute}
+use Rattle.placed_code.proofs.FrontsCover.{covered_before, whole_or_uncovered}
 use Rattle.certified_lines.specs.StraightRules.{Told}
 use Rattle.certified_lines.specs.Instructions.{with_a}
 use Rattle.certified_lines.specs.Scopes.{Scene, HoldsScope, IsScope}
@@ -39,12 +43,11 @@ use Rattle.certified_lines.specs.OperandLaws.{IsOnly, chain_range, FirstTwoTell,
 use Rattle.certified_lines.specs.ChainLaws.{TermTells, IsFrontOf, TermsRange, two, then_one, front_or, TermsTell}
 use Rattle.certified_lines.proofs.StraightRules.{fall_both}
 use Rattle.certified_lines.proofs.Numbers.{sums_lie_in_ranges}
-use Rattle.certified_lines.proofs.Named.{Names, operands_name}
 use Rattle.certified_lines.proofs.Ranges.{sums_turned, products_turned, and_ranges_turned, or_ranges_turned}
 use Rattle.certified_lines.proofs.Ranges.{xor_ranges_turned}
 use Rattle.certified_lines.proofs.Telling.{constants_tell}
 use Rattle.certified_lines.proofs.Operands.{operations_tell, operation_behind, on_it, waiting, allowed_first, keeps_a}
-use Rattle.certified_lines.proofs.Arithmetic.{fewer_kept, kept_of, sum_tells}
+use Rattle.certified_lines.proofs.Arithmetic.{fewer_kept, sum_tells}
 use Rattle.certified_lines.proofs.Arithmetic.{first_of}
 
 -- ---- operations
@@ -52,72 +55,44 @@ use Rattle.certified_lines.proofs.Arithmetic.{first_of}
 -- the operation of words that an operator is, whose results have the range in either order
 pub record IsOperation (op : ChainOperator) (r s q : Ends) : Type 0 where
   pub operation : Binary
-  pub named : Names (chain_operation op) operation
+  pub named : IsBinary (chain_operation op) operation
   pub gives : result_range operation r s ≡ Some q
   pub turned : result_range operation s r ≡ Some q
 
--- one whose range does not depend on the order
-either_way : (op : ChainOperator) (operation : Binary) (r s q : Ends) → Names (chain_operation op) operation
-    → result_range operation s r ≡ result_range operation r s → result_range operation r s ≡ Some q
-    → IsOperation op r s q
-either_way op operation r s q named same gives = record {
-  operation = operation;
-  named = named;
-  gives = gives;
-  turned = same ∙ gives;
-}
-
-sum_same : (r s : Ends) → result_range binary.Add s r ≡ result_range binary.Add r s
+turned_range : (op : Binary) (r s : Ends) → commutes op ≡ true → result_range op s r ≡ result_range op r s
 unfolding result_range
-sum_same r s = sums_turned r s
-
-word_sum_same : (r s : Ends) → result_range binary.Sum s r ≡ result_range binary.Sum r s
-unfolding result_range
-word_sum_same r s = ap (λ (o : Option Ends). Some (unwrap_or o full)) (sums_turned r s)
-
-word_product_same : (r s : Ends) → result_range binary.Product s r ≡ result_range binary.Product r s
-unfolding result_range
-word_product_same r s = ap (λ (o : Option Ends). Some (unwrap_or o full)) (products_turned r s)
-
-and_same : (r s : Ends) → result_range binary.And s r ≡ result_range binary.And r s
-unfolding result_range
-and_same r s = ap Some (and_ranges_turned r s)
-
-or_same : (r s : Ends) → result_range binary.Or s r ≡ result_range binary.Or r s
-unfolding result_range
-or_same r s = ap Some (or_ranges_turned r s)
-
-xor_same : (r s : Ends) → result_range binary.ExclusiveOr s r ≡ result_range binary.ExclusiveOr r s
-unfolding result_range
-xor_same r s = ap Some (xor_ranges_turned r s)
+turned_range binary.Add r s is = sums_turned r s
+turned_range binary.Sum r s is = ap (λ (o : Option Ends). Some (unwrap_or o full)) (sums_turned r s)
+turned_range binary.Product r s is = ap (λ (o : Option Ends). Some (unwrap_or o full)) (products_turned r s)
+turned_range binary.And r s is = ap Some (and_ranges_turned r s)
+turned_range binary.Or r s is = ap Some (or_ranges_turned r s)
+turned_range binary.ExclusiveOr r s is = ap Some (xor_ranges_turned r s)
+turned_range op r s is = absurd (cc)
 
 -- a product in a range is the one modulo 2^32
-product_same : (r s q : Ends) → result_range binary.Multiply r s ≡ Some q → result_range binary.Product r s ≡ Some q
+words_lie : (op : ChainOperator) (r s q : Ends) → chain_range op r s ≡ Some q
+    → result_range (word_operation op) r s ≡ Some q
 unfolding result_range
-product_same r s q gives = ap (λ (o : Option Ends). Some (unwrap_or o full)) gives
+words_lie (chain.Arithmetic arithmetic_chain.Multiply) r s q gives =
+    ap (λ (o : Option Ends). Some (unwrap_or o full)) gives
+words_lie (chain.Logic logic.And) r s q gives = gives
+words_lie op r s q gives = gives
+
+named_in_chains : (op : ChainOperator) → IsBinary (chain_operation op) (word_operation op)
+unfolding op_of
+named_in_chains (chain.Arithmetic arithmetic_chain.Add) = refl
+named_in_chains (chain.Logic logic.And) = refl
+named_in_chains op = refl
 
 pub chains_operate : (op : ChainOperator) (r s q : Ends) → chain_range op r s ≡ Some q → IsOperation op r s q
-chains_operate (chain.Arithmetic arithmetic_chain.Add) r s q gives =
-    either_way (chain.Arithmetic arithmetic_chain.Add) binary.Add r s q operands_name.add (sum_same r s) gives
-chains_operate (chain.Arithmetic arithmetic_chain.Multiply) r s q gives =
-    either_way (chain.Arithmetic arithmetic_chain.Multiply) binary.Product r s q operands_name.product
-    (word_product_same r s) (product_same r s q gives)
-chains_operate (chain.Arithmetic arithmetic_chain.Plus) r s q gives =
-    either_way (chain.Arithmetic arithmetic_chain.Plus) binary.Sum r s q operands_name.sum (word_sum_same r s) gives
-chains_operate (chain.Arithmetic arithmetic_chain.Times) r s q gives =
-    either_way (chain.Arithmetic arithmetic_chain.Times) binary.Product r s q operands_name.product
-    (word_product_same r s) gives
-chains_operate (chain.Arithmetic arithmetic_chain.BitAnd) r s q gives =
-    either_way (chain.Arithmetic arithmetic_chain.BitAnd) binary.And r s q operands_name.and (and_same r s) gives
-chains_operate (chain.Arithmetic arithmetic_chain.BitOr) r s q gives =
-    either_way (chain.Arithmetic arithmetic_chain.BitOr) binary.Or r s q operands_name.or (or_same r s) gives
-chains_operate (chain.Arithmetic arithmetic_chain.BitXor) r s q gives =
-    either_way (chain.Arithmetic arithmetic_chain.BitXor) binary.ExclusiveOr r s q operands_name.exclusive_or
-    (xor_same r s) gives
-chains_operate (chain.Logic logic.And) r s q gives =
-    either_way (chain.Logic logic.And) binary.And r s q operands_name.and (and_same r s) gives
-chains_operate (chain.Logic logic.Or) r s q gives =
-    either_way (chain.Logic logic.Or) binary.Or r s q operands_name.or (or_same r s) gives
+chains_operate op r s q gives =
+    let lies = words_lie op r s q gives in
+    record {
+      operation = word_operation op;
+      named = named_in_chains op;
+      gives = lies;
+      turned = turned_range (word_operation op) r s (chains_commute op) ∙ lies;
+    }
 
 -- ---- the constant that is added
 
@@ -134,14 +109,7 @@ added_range (chain.Arithmetic arithmetic_chain.Add) (Some c) d r s q is y only g
     by_test : (t : Bool) (c d : ℤ) → cond t None (Some c) ≡ Some d → c ≡ d
     by_test true c d is = absurd (cc)
     by_test false c d is = cc
-added_range (chain.Arithmetic arithmetic_chain.Add) None d r s q is y only gives = absurd (cc)
-added_range (chain.Arithmetic arithmetic_chain.Multiply) constant d r s q is y only gives = absurd (cc)
-added_range (chain.Arithmetic arithmetic_chain.Plus) constant d r s q is y only gives = absurd (cc)
-added_range (chain.Arithmetic arithmetic_chain.Times) constant d r s q is y only gives = absurd (cc)
-added_range (chain.Arithmetic arithmetic_chain.BitAnd) constant d r s q is y only gives = absurd (cc)
-added_range (chain.Arithmetic arithmetic_chain.BitOr) constant d r s q is y only gives = absurd (cc)
-added_range (chain.Arithmetic arithmetic_chain.BitXor) constant d r s q is y only gives = absurd (cc)
-added_range (chain.Logic op) constant d r s q is y only gives = absurd (cc)
+added_range op constant d r s q is y only gives = absurd (cc)
 
 -- ---- the first two operands
 
@@ -213,40 +181,16 @@ one_more_tells g top t es op ps right lx sx leaf small constant r s q before sco
 
 -- ---- fronts
 
--- operands before one that is covered are covered
-covered_by : (p q : Bool) (front : Front) (n : ℕ) (c : ℤ) → nat_le (n + 1) front.operands ≡ p
-    → nat_le n front.operands ≡ q → cond p (Some front.value) None ≡ Some c → cond q (Some front.value) None ≡ Some c
-covered_by true true front n c more less is = is
-covered_by true false front n c more less is =
-    let far = leb-true (n + 1) front.operands more in
-    absurd (cc (sym less ∙ le-leb n front.operands (omega (arith, far))))
-covered_by false q front n c more less is = absurd (cc)
-
 still_covered : (front : Option Front) (n : ℕ) (c : ℤ) → covered front (n + 1) ≡ Some c → covered front n ≡ Some c
 still_covered None n c is = is
-still_covered (Some front) n c is =
-    covered_by (nat_le (n + 1) front.operands) (nat_le n front.operands) front n c refl refl is
-
--- Where one operand more is not covered, those before are the whole front or are not covered.
-ends_by : (p q : Bool) (f : Front) (n : ℕ) (r : Ends) → nat_le (n + 1) f.operands ≡ p → nat_le n f.operands ≡ q
-    → cond p (Some f.value) None ≡ None → (f.operands ≡ n → r ≡ ranges.constant f.value)
-    → front_or (cond q (Some f.value) None) r ≡ r
-ends_by true q f n r more less is same = absurd (cc)
-ends_by false false f n r more less is same = refl
-ends_by false true f n r more less is same = sym (same (exactly (leb-true n f.operands less)))
-  where
-    not_more : n + 1 ≤ f.operands → ⊥
-    not_more far = absurd (cc (sym more ∙ le-leb (n + 1) f.operands far))
-
-    exactly : n ≤ f.operands → f.operands ≡ n
-    exactly far = omega (arith, far, not_more)
+still_covered (Some front) n c is = covered_before front n c is
 
 front_ends : (front : Option Front) (n : ℕ) (r : Ends) → covered front (n + 1) ≡ None
     → ((f : Front) → front ≡ Some f → f.operands ≡ n → r ≡ ranges.constant f.value)
     → front_or (covered front n) r ≡ r
 front_ends None n r is same = refl
 front_ends (Some f) n r is same =
-    ends_by (nat_le (n + 1) f.operands) (nat_le n f.operands) f n r refl refl is (same f refl)
+    whole_or_uncovered (λ o. front_or o r) f n is (λ whole. sym (same f refl whole))
 
 here_of : {g : Scene} {es : List Entry} {t : ℕ} {op : ChainOperator} {front : Option Front} {ts : Terms} {r : Ends}
     → TermsRange g es t op front ts r → IsFrontOf front ts r
@@ -254,10 +198,6 @@ here_of (two a b ranged gives is) = is
 here_of (then_one before x ranged gives is) = is
 
 -- ---- whole chains
-
-kept_small : (small leaf : Bool) → (small && leaf) ≡ true → ((small || false) && leaf) ≡ true
-kept_small true leaf is = is
-kept_small false leaf is = absurd (cc is)
 
 module _ (g : Scene) (top t : ℕ) (es : List Entry) (op : ChainOperator) (front : Option Front)
     (scope : IsScope g top es) (low : top ≤ t) (few : IsFree t) where
@@ -301,7 +241,7 @@ module _ (g : Scene) (top t : ℕ) (es : List Entry) (op : ChainOperator) (front
       (λ all told holds.
       fewer_kept g.setting (code ++ joined t op (exact_value (bound_of_term es x)) (is_small_term es x)
       (term_code g.homes es (word_after t 1) x)) t (are_small es ts && is_leaf_term es x)
-      ((are_small es ts || false) && is_leaf_term es x) q told (kept_small (are_small es ts) (is_leaf_term es x))
+      ((are_small es ts || false) && is_leaf_term es x) q told (kept_of (are_small es ts) false (is_leaf_term es x))
       (one_more_tells g top t es op code (term_code g.homes es (word_after t 1) x) false (are_small es ts)
       (is_leaf_term es x) (is_small_term es x) (exact_value (bound_of_term es x)) r s q told scope low few before.0
       second.ranged tells second.tells.second second.only (gives refl) all holds))

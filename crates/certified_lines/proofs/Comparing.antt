@@ -1,5 +1,5 @@
 -- What the code of prefixes and of comparisons leaves known.
-use Rattle.std.proofs.Common.{◌≡◌, ℕ, ◌≤◌, inl, inr, ℤ, pos, Bool, true, false, ◌&&◌, ◌||◌, List, [], ◌∷◌, ◌++◌}
+use Rattle.std.proofs.Common.{◌≡◌, ℕ, ◌≤◌, inl, inr, ℤ, pos, Bool, true, false, ◌&&◌, List, [], ◌∷◌, ◌++◌}
 use Rattle.std.proofs.Common.{Option, Some}
 use Rattle.std.proofs.Common.{None, FitsSigned, refl, sym, ap, subst, arith, append_assoc}
 use Rattle.std.specs.Prelude.{◌+ℤ◌, ◌-ℤ◌}
@@ -30,6 +30,8 @@ use Rattle.code_pieces.specs.Pieces.{Piece, Direct, operates, constant}
 use Rattle.line_pieces.specs.Expressions.{Operand, both, comes_last, pushed, pushes_of, pair_code, negates}
 use Rattle.line_pieces.specs.Expressions.{after_constant, next_above, next_below, negated_unless, on_constant}
 use Rattle.line_pieces.specs.Expressions.{below_constant, prefix_code}
+use Rattle.placed_code.proofs.OperandsName.{operands_name}
+use Rattle.placed_code.proofs.OperandsKeep.{kept_of, leaves_kept, exchanged_kept, by_next}
 use Rattle.certified_lines.specs.StraightRules.{Setting, Told, FallOn, with_pushed}
 use Rattle.certified_lines.specs.Instructions.{with_a, with_result}
 use Rattle.certified_lines.specs.Numbers.{IsNumberIn}
@@ -43,11 +45,10 @@ use Rattle.certified_lines.proofs.Instructions.{constants_are_known, registers_a
 use Rattle.certified_lines.proofs.Numbers.{results_lie_in_ranges, comparisons_are_truths, turned_bits_lie_in_ranges}
 use Rattle.certified_lines.proofs.Numbers.{sums_lie_in_ranges}
 use Rattle.certified_lines.proofs.Numbers.{nothing_is_told_from_nowhere}
-use Rattle.certified_lines.proofs.Named.{operands_name}
 use Rattle.certified_lines.proofs.Ranges.{checked_by, constant_ranged, negative, not_ranged}
-use Rattle.certified_lines.proofs.Operands.{both_tell, operations_tell, allowed_first, allowed_rest}
+use Rattle.certified_lines.proofs.Operands.{both_tell, operations_tell, allowed_first}
 use Rattle.certified_lines.proofs.Operands.{quiet_of, still_nowhere}
-use Rattle.certified_lines.proofs.Arithmetic.{replaced, fewer_kept, kept_of, first_of}
+use Rattle.certified_lines.proofs.Arithmetic.{replaced, fewer_kept, first_of}
 
 pub greater_range : (r s : Ends) → result_range binary.Greater r s ≡ Some truths
 unfolding result_range
@@ -63,13 +64,21 @@ difference_ranged r s x y =
 
 -- ---- what is in A is replaced
 
+-- A is compared with a constant
+abbrev pub compared_told : ℤ → Told → Told
+compared_told e k = with_a (record { fact = number_in truths; source = equal_source k.stack.a e }) k
+
+pub compared_falls : (g : Setting) (e : ℤ) (r : Ends) (k : Told) → k.stack.a.fact ≡ number_in r → IsRange r
+    → FitsSigned w32 e → FallOn g (Direct fun.EqualsConstant e ∷ []) k (compared_told e k)
+compared_falls g e r k is x fits = comparisons_are_truths g e r k (record { is = is; range = x }) fits
+
 pub compared_with : (g : Setting) (ps : List Piece) (t : ℕ) (leaf small : Bool) (r : Ends) (e : ℤ) (before : Told)
     → IsRange r → FitsSigned w32 e → PushedFact g ps t leaf small r before
     → PushedFact g (ps ++ Direct fun.EqualsConstant e ∷ []) t false small truths before
 compared_with g ps t leaf small r e before x fits p =
     replaced g ps (Direct fun.EqualsConstant e ∷ []) t leaf small r truths
     (record { fact = number_in truths; source = equal_source p.after.stack.a e }) before p refl
-    (comparisons_are_truths g e r p.after (record { is = p.a; range = x }) fits)
+    (compared_falls g e r p.after p.a x fits)
 
 pub zero_fits : FitsSigned w32 (pos 0)
 zero_fits = omega (arith, ints)
@@ -122,20 +131,6 @@ prefixes_tell g t op ps leaf small r q before x gives p = prefixed g t ps leaf s
 
 -- ---- two operands
 
-leaves_kept : (small leaf second : Bool) → (leaf && second) ≡ true → ((small || leaf) && second) ≡ true
-leaves_kept true true true is = refl
-leaves_kept true true false is = absurd (cc is)
-leaves_kept true false second is = absurd (cc is)
-leaves_kept false true second is = is
-leaves_kept false false second is = absurd (cc is)
-
--- what two operands that are one push each keep
-exchanged_kept : (small leaf first : Bool) → (first && leaf) ≡ true → ((small || leaf) && first) ≡ true
-exchanged_kept true true true is = refl
-exchanged_kept false true true is = refl
-exchanged_kept small false true is = absurd (cc is)
-exchanged_kept small leaf false is = absurd (cc is)
-
 -- two numbers differ, and the difference is compared with 0
 pub record Differ (g : Setting) (k : Told) : Type 0 where
   pub after : Told
@@ -151,11 +146,10 @@ differ g r s k b a =
     let d : Told =
     with_result (record { fact = number_in q; source = result_source binary.Difference k.stack.b k.stack.a }) k in
     record {
-      after = with_a (record { fact = number_in truths; source = equal_source d.stack.a (pos 0) }) d;
+      after = compared_told (pos 0) d;
       falls = fall_both (results_lie_in_ranges g DIFFERENCE binary.Difference r s q k operands_name.difference b a
           (difference_is r s))
-          (comparisons_are_truths g (pos 0) q d
-          (record { is = refl; range = difference_ranged r s b.range a.range }) zero_fits);
+          (compared_falls g (pos 0) q d refl (difference_ranged r s b.range a.range) zero_fits);
       a = refl;
       frame = refl;
       below = refl;
@@ -306,6 +300,14 @@ module _ (g : Scene) (top t : ℕ) (es : List Entry) (scope : IsScope g top es) 
         quiet = λ calm. (quiet_of t k.stack.a.source (calm before k first.falls), tt);
       }
 
+-- what is allowed behind a constant
+pub constant_allowed : (g : Scene) (c : ℤ) (small : Bool) (ps : List Piece)
+    → AreAllowed g (after_constant c small ps ++ operates GREATER ∷ []) → AreAllowed g ps
+constant_allowed g c true ps all = allowed_first g ps (operates GREATER ∷ []) all.1
+constant_allowed g c false ps all =
+    allowed_first g ps (constant c ∷ operates REVERSE ∷ [])
+    (allowed_first g (ps ++ constant c ∷ operates REVERSE ∷ []) (operates GREATER ∷ []) all)
+
 -- A comparison of two operands, which may be constants.
 module _ (g : Scene) (top t : ℕ) (es : List Entry) (scope : IsScope g top es) (low : top ≤ t) (few : IsFree t)
     (before : Told) (holds : HoldsScope g es before.frame) (a b : Operand) (r s : Ends) (x : IsRange r) (y : IsRange s)
@@ -335,16 +337,7 @@ module _ (g : Scene) (top t : ℕ) (es : List Entry) (scope : IsScope g top es) 
       fewer_kept g.setting (after_constant c a.small a.first ++ operates GREATER ∷ []) t (a.leaf && b.leaf) a.leaf
       truths before (first_of a.leaf b.leaf)
       (over_constant g top t es scope low few before holds a.small a.first a.leaf r c x fits
-      (left_alone (left_stores a.small a.first all))).told
-    where
-      left_stores : (small : Bool) (ps : List Piece)
-          → AreAllowed g (after_constant c small ps ++ operates GREATER ∷ []) → AreAllowed g ps
-      left_stores true ps all =
-          allowed_first g ps (operates GREATER ∷ [])
-          (allowed_rest g (constant c ∷ []) (ps ++ operates GREATER ∷ []) all)
-      left_stores false ps all =
-          allowed_first g ps (constant c ∷ operates REVERSE ∷ [])
-          (allowed_first g (ps ++ constant c ∷ operates REVERSE ∷ []) (operates GREATER ∷ []) all)
+      (left_alone (constant_allowed g c a.small a.first all))).told
 
   under : (c : ℤ) → FitsSigned w32 c → AreAllowed g ((a.first ++ constant c ∷ []) ++ operates GREATER ∷ [])
       → PushedFact g.setting ((a.first ++ constant c ∷ []) ++ operates GREATER ∷ []) t false (a.leaf && b.leaf) truths
@@ -363,11 +356,6 @@ module _ (g : Scene) (top t : ℕ) (es : List Entry) (scope : IsScope g top es) 
       ++ pair_code (pair.Comparison op) first second)
       → PushedFact g.setting (pushed (pushes_of (pair.Comparison op) first second) t a b
       ++ pair_code (pair.Comparison op) first second) t false (leaves_below (pair.Comparison op) a b) truths before
-
-  greater : (first second : Option ℤ) → Compares comparison.Greater first second
-  greater first second all =
-      fewer_kept g.setting (both true (comes_last a.leaf b.small) t a b ++ operates GREATER ∷ []) t
-      (a.small && b.leaf) (keeps a b) truths before (kept_of a.small a.leaf b.leaf) (in_order all)
 
   less : (first second : Option ℤ) → IsOnly second s → Compares comparison.Less first second
   less first None only all = in_turn all
@@ -393,31 +381,18 @@ module _ (g : Scene) (top t : ℕ) (es : List Entry) (scope : IsScope g top es) 
   not_less all =
       turned_behind g second_greater (operates GREATER ∷ []) t false (a.leaf && b.leaf) before in_turn all
 
-  less_or_equal : (second o : Option ℤ) → next_above second ≡ o
-      → AreAllowed g (pushed (on_constant (pushes_of (pair.Comparison comparison.Greater) None None) o) t a b
-      ++ operates GREATER ∷ negated_unless o)
-      → PushedFact g.setting (pushed (on_constant (pushes_of (pair.Comparison comparison.Greater) None None) o) t a b
-      ++ operates GREATER ∷ negated_unless o) t false (a.leaf && b.leaf) truths before
-  less_or_equal second None next all = not_greater all
-  less_or_equal None (Some d) next all = absurd (cc)
-  less_or_equal (Some c) (Some d) next all = over d (above_fits c d next) all
-
-  greater_or_equal : (second o : Option ℤ) → next_below second ≡ o
-      → AreAllowed g (pushed (below_constant (pushes_of (pair.Comparison comparison.Less) None None) o) t a b
-      ++ operates GREATER ∷ negated_unless o)
-      → PushedFact g.setting (pushed (below_constant (pushes_of (pair.Comparison comparison.Less) None None) o) t a b
-      ++ operates GREATER ∷ negated_unless o) t false (a.leaf && b.leaf) truths before
-  greater_or_equal second None next all = not_less all
-  greater_or_equal None (Some d) next all = absurd (cc)
-  greater_or_equal (Some c) (Some d) next all = under d (below_fits c d next) all
+  -- with a constant that is next to the second operand, or with both operands
+  abbrev NextTells : (Option ℤ → List Piece) → Option ℤ → Type 0
+  NextTells operands o =
+      let code : List Piece = operands o ++ operates GREATER ∷ negated_unless o in
+      AreAllowed g code → PushedFact g.setting code t false (a.leaf && b.leaf) truths before
 
   -- the second operand alone
   second_compared : (c : ℤ) → FitsSigned w32 c → PushedFact g.setting b.first t b.leaf b.small s before
       → PushedFact g.setting (b.first ++ Direct fun.EqualsConstant c ∷ []) t false (a.small && b.leaf) truths before
   second_compared c fits p = record {
-    after = with_a (record { fact = number_in truths; source = equal_source p.after.stack.a c }) p.after;
-    falls = fall_both p.falls
-        (comparisons_are_truths g.setting c s p.after (record { is = p.a; range = y }) fits);
+    after = compared_told c p.after;
+    falls = fall_both p.falls (compared_falls g.setting c s p.after p.a y fits);
     a = refl;
     stay = p.stay;
     below = λ is. like_of (ap (λ (j : Told). j.stack.b) (p.alone (and_parts a.small b.leaf is).1));
@@ -435,20 +410,24 @@ module _ (g : Scene) (top t : ℕ) (es : List Entry) (scope : IsScope g top es) 
       (push_b.first (allowed_first g b.first (Direct fun.EqualsConstant c ∷ []) all) before holds)
   equal None None is only all = equal_tells g top t es scope low few before holds a b r s x y push_a push_b all
 
-  not_equal : (first second : Option ℤ) → IsOnly first r → IsOnly second s
-      → Compares comparison.NotEqual first second
-  not_equal first second is only all =
+  compared : (op : Comparison) (first second : Option ℤ) → IsOnly first r → IsOnly second s → Compares op first second
+  compared comparison.Equal first second is only all = equal first second is only all
+  compared comparison.NotEqual first second is only all =
       turned_behind g (pushed (pushes_of (pair.Comparison comparison.Equal) first second) t a b)
       (pair_code (pair.Comparison comparison.Equal) first second) t false (a.small && b.leaf) before
       (equal first second is only) all
-
-  compared : (op : Comparison) (first second : Option ℤ) → IsOnly first r → IsOnly second s → Compares op first second
-  compared comparison.Equal first second is only all = equal first second is only all
-  compared comparison.NotEqual first second is only all = not_equal first second is only all
   compared comparison.Less first second is only all = less first second only all
-  compared comparison.LessOrEqual first second is only all = less_or_equal second (next_above second) refl all
-  compared comparison.Greater first second is only all = greater first second all
-  compared comparison.GreaterOrEqual first second is only all = greater_or_equal second (next_below second) refl all
+  compared comparison.LessOrEqual first second is only all =
+      by_next next_above (λ o. IsOnly o s)
+      (NextTells (λ o. pushed (on_constant (pushes_of (pair.Comparison comparison.Greater) None None) o) t a b)) refl
+      not_greater (λ c d is next all. over d (above_fits c d next) all) second only all
+  compared comparison.Greater first second is only all =
+      fewer_kept g.setting (both true (comes_last a.leaf b.small) t a b ++ operates GREATER ∷ []) t
+      (a.small && b.leaf) (keeps a b) truths before (kept_of a.small a.leaf b.leaf) (in_order all)
+  compared comparison.GreaterOrEqual first second is only all =
+      by_next next_below (λ o. IsOnly o s)
+      (NextTells (λ o. pushed (below_constant (pushes_of (pair.Comparison comparison.Less) None None) o) t a b)) refl
+      not_less (λ c d is next all. under d (below_fits c d next) all) second only all
 
 pub comparisons_tell : ComparisonsTell
 comparisons_tell g top t es op a b first second r s before scope low few x y push_a push_b is only all holds =

@@ -132,6 +132,17 @@ record Read (g : Setting) (ps : List Piece) (q : Ends) (before : Told) (below : 
   frame : after.frame ≡ before.frame
   b : after.stack.b ≡ below
 
+-- pieces that leave words as they were, and then others
+read_after : {g : Setting} {ps qs : List Piece} {q : Ends} {before k : Told} {below : Known} → FallOn g ps before k
+    → k.frame ≡ before.frame → Read g qs q k below → Read g (ps ++ qs) q before below
+read_after falls same read = record {
+  after = read.after;
+  falls = fall_both falls read.falls;
+  a = read.a;
+  frame = read.frame ∙ same;
+  b = read.b;
+}
+
 -- behind a subscript
 read_behind : (g : Setting) (ps qs : List Piece) (t : ℕ) (leaf small : Bool) (r q : Ends) (before : Told)
     → (p : PushedFact g ps t leaf small r before) → Read g qs q p.after p.after.stack.b
@@ -396,14 +407,9 @@ words_tell g top t w size es name range r s leaf small scope low array select te
     subst (λ (ps : List Piece). PushedFact g.setting ps t false small full told)
     (sym (append_assoc (before_offset s) (points w ∷ operates WORD_SUBSCRIPT ∷ []) (loads_at (or_zero s.offset) ∷ [])))
     (read_behind g.setting (before_offset s)
-    (points w ∷ operates WORD_SUBSCRIPT ∷ loads_at (or_zero s.offset) ∷ []) t leaf small r full told first (record {
-      after = one.after;
-      falls = fall_both (addresses_are_known g.setting w k (few_counted w (omega (arith, few, inside)))
-          (omega (arith, few, inside))) one.falls;
-      a = one.a;
-      frame = one.frame;
-      b = one.b;
-    }))
+    (points w ∷ operates WORD_SUBSCRIPT ∷ loads_at (or_zero s.offset) ∷ []) t leaf small r full told first
+    (read_after (addresses_are_known g.setting w k (few_counted w (omega (arith, few, inside)))
+    (omega (arith, few, inside))) refl one))
 
 -- ---- tables
 
@@ -466,13 +472,8 @@ known_items_tell g top t c size es name type values range s small scope array re
     let one = word_behind g.setting regions.Constants (g.setting.tables values) size (omega (arith, lies, few))
     (omega (arith, lies, few, long)) range told c inside
     (table_words g.setting values range c 0 told table.0 (omega (arith, inside, long))) in
-    read_alone g.setting (TableAddress values ∷ loads_at (pos c) ∷ []) t small range told (record {
-      after = one.after;
-      falls = fall_both (tables_are_known g.setting values told) one.falls;
-      a = one.a;
-      frame = one.frame;
-      b = one.b;
-    })
+    read_alone g.setting (TableAddress values ∷ loads_at (pos c) ∷ []) t small range told
+    (read_after (tables_are_known g.setting values told) refl one)
 
 pub items_tell : ItemsTell
 items_tell g top t size es name type values range r s leaf small scope low array reads select tells told holds =
@@ -489,13 +490,7 @@ items_tell g top t size es name type values range r s leaf small scope low array
     (table_words g.setting values range sel.first sel.more k table.0 (omega (arith, inside, long))) in
     read_behind g.setting (before_offset s)
     (TableAddress values ∷ operates WORD_SUBSCRIPT ∷ loads_at (or_zero s.offset) ∷ []) t leaf small r range told first
-    (record {
-      after = one.after;
-      falls = fall_both (tables_are_known g.setting values k) one.falls;
-      a = one.a;
-      frame = one.frame;
-      b = one.b;
-    })
+    (read_after (tables_are_known g.setting values k) refl one)
 
 -- ---- bytes
 
@@ -579,19 +574,12 @@ module _ (g : Scene) (w count : ℕ) (k : Told) (array : IsKnownArray g w count 
       let step = step_after WordStep (record { lo = r.lo; hi = r.hi }) in
       let second : Told = with_result (known (Pointer regions.Frame (pos first) (pos last) step)) s in
       let one = bytes_loaded second first last step same up low high refl in
-      record {
-        after = one.after;
-        falls = fall_both
-            (selected_bytes_are_known g.setting (record { lo = r.lo; hi = r.hi })
-            (record { region = regions.Frame; lo = pos (4 * base); hi = pos (4 * base); step = WordStep })
-            (Pointer regions.Frame (pos first) (pos last) step) s (ap bounds_of b ∙ bounds_are r)
-            (ap pointer_of a ∙ pointer_is regions.Frame (pos (4 * base)) (pos (4 * base)) WordStep start)
-            (element_bytes (4 * base) r (pos first) (pos last) lo hi near))
-            one.falls;
-        a = one.a;
-        frame = one.frame;
-        b = one.b;
-      }
+      read_after
+      (selected_bytes_are_known g.setting (record { lo = r.lo; hi = r.hi })
+      (record { region = regions.Frame; lo = pos (4 * base); hi = pos (4 * base); step = WordStep })
+      (Pointer regions.Frame (pos first) (pos last) step) s (ap bounds_of b ∙ bounds_are r)
+      (ap pointer_of a ∙ pointer_is regions.Frame (pos (4 * base)) (pos (4 * base)) WordStep start)
+      (element_bytes (4 * base) r (pos first) (pos last) lo hi near)) refl one
 
 bytes_inside : (size j : ℕ) → j < size → j < 4 * words_for value_type.Byte size
 bytes_inside size j less = omega (arith, less)
@@ -614,14 +602,9 @@ bytes_tell g top t w size es name range r s leaf small scope low array select te
     subst (λ (ps : List Piece). PushedFact g.setting ps t false small bytes told)
     (sym (append_assoc s.whole (points w ∷ operates BYTE_SUBSCRIPT ∷ []) (operates LOAD_BYTE ∷ [])))
     (read_behind g.setting s.whole (points w ∷ operates BYTE_SUBSCRIPT ∷ operates LOAD_BYTE ∷ []) t leaf small r bytes
-    told first (record {
-      after = one.after;
-      falls = fall_both (addresses_are_known g.setting w k (few_counted w (omega (arith, few, inside)))
-          (omega (arith, few, inside))) one.falls;
-      a = one.a;
-      frame = one.frame;
-      b = one.b;
-    }))
+    told first
+    (read_after (addresses_are_known g.setting w k (few_counted w (omega (arith, few, inside)))
+    (omega (arith, few, inside))) refl one))
 
 known_byte_by : (test : Bool) (g : Scene) (w count n t : ℕ) (small : Bool) (told : Told) → nat_eq (n % 4) 0 ≡ test
     → n < 4 * count → IsKnownArray g w count told
@@ -637,14 +620,8 @@ known_byte_by true g w count n t small told test inside array =
     WordStep refl (omega arith) (omega arith) (omega (arith, inside)) refl in
     subst (λ (a : ℕ). PushedFact g.setting (points a ∷ operates LOAD_BYTE ∷ []) t false small bytes told)
     (sym (word_is w (n / 4) here))
-    (read_alone g.setting (points word ∷ operates LOAD_BYTE ∷ []) t small bytes told (record {
-      after = one.after;
-      falls = fall_both (addresses_are_known g.setting word told (few_counted word here) (omega (arith, here)))
-          one.falls;
-      a = one.a;
-      frame = one.frame;
-      b = one.b;
-    }))
+    (read_alone g.setting (points word ∷ operates LOAD_BYTE ∷ []) t small bytes told
+    (read_after (addresses_are_known g.setting word told (few_counted word here) (omega (arith, here))) refl one))
 known_byte_by false g w count n t small told test inside array =
     let few = array.few in
     let word = w + n / 4 in
@@ -658,15 +635,9 @@ known_byte_by false g w count n t small told test inside array =
     subst (λ (a : ℕ). PushedFact g.setting (constant (pos byte) ∷ points a ∷ operates BYTE_SUBSCRIPT
     ∷ operates LOAD_BYTE ∷ []) t false small bytes told) (sym (word_is w (n / 4) here))
     (read_alone g.setting
-    (constant (pos byte) ∷ points word ∷ operates BYTE_SUBSCRIPT ∷ operates LOAD_BYTE ∷ []) t small bytes told (record {
-      after = one.after;
-      falls = fall_both (constants_are_known g.setting (pos byte) told)
-          (fall_both (addresses_are_known g.setting word first (few_counted word here) (omega (arith, here)))
-          one.falls);
-      a = one.a;
-      frame = one.frame;
-      b = one.b;
-    }))
+    (constant (pos byte) ∷ points word ∷ operates BYTE_SUBSCRIPT ∷ operates LOAD_BYTE ∷ []) t small bytes told
+    (read_after (constants_are_known g.setting (pos byte) told) refl
+    (read_after (addresses_are_known g.setting word first (few_counted word here) (omega (arith, here))) refl one)))
 
 pub known_bytes_tell : KnownBytesTell
 known_bytes_tell g top t w c size es name range s small scope array less told holds =

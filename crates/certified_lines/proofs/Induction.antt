@@ -53,9 +53,9 @@ use Rattle.line_pieces.specs.Expressions.{offset_of, offset_or_none, added_by, g
 use Rattle.line_pieces.specs.Expressions.{before_offset, subscript_of, element_code, element_of_words, element_of_table}
 use Rattle.line_pieces.specs.Expressions.{loads_at, subscript_code}
 use Rattle.certified_lines.specs.Scopes.{Scene, IsHousedThere, IsScope}
-use Rattle.certified_lines.specs.Telling.{PushedFact, Tells, IsFree}
+use Rattle.certified_lines.specs.Telling.{Tells, IsFree, truth_range}
 use Rattle.certified_lines.specs.ElementLaws.{IsArray, Select}
-use Rattle.certified_lines.specs.ExpressionLaws.{IsTold, ExpressionTells, ExpressionsTell}
+use Rattle.certified_lines.specs.ExpressionLaws.{IsRangeOf, IsTold, ExpressionTells, ExpressionsTell}
 use Rattle.certified_lines.proofs.Telling.{constants_tell, scalars_tell, name_has}
 use Rattle.certified_lines.proofs.Ranges.{truth_ranged}
 use Rattle.certified_lines.proofs.Ranges.{full_ranged}
@@ -103,6 +103,20 @@ module _ (g : Scene) (top : ℕ) (es : List Entry) (scope : IsScope g top es) wh
       → named_bound (meaning_in name es) ≡ Ok d → TermTold g top es (Named name) type d
   named_told name type d typed is = by_meaning (meaning_in name es) refl typed is
     where
+      -- the value of a constant, or what the home has
+      by_value : (kind : ValueType) → bound_of_term es (Named name) ≡ Ok d → type_of_values kind ≡ type
+          → ((v : ℤ) → d ≡ Exactly v → FitsSigned w32 v)
+          → (exact_value (bound_of_term es (Named name)) ≡ None
+          → IsTold g top es (λ t. scalar_code (is_byte_reference (meaning_in name es)) (home_of g.homes es name))
+          (is_pushed (meaning_in name es)) true (type_of_values kind) d)
+          → TermTold g top es (Named name) type d
+      by_value kind there same fits any =
+          as_bound g top es same refl
+          (constant_told g top es (λ t. scalar_code (is_byte_reference (meaning_in name es)) (home_of g.homes es name))
+          (λ o. is_pushed (meaning_in name es)) true (type_of_values kind) d
+          (exact_value (bound_of_term es (Named name))) (sym (ap exact_value there))
+          (λ e. of_values g top es kind d (ends d) refl) fits any)
+
       by_meaning : (m : Option Meaning) → meaning_in name es ≡ m → named_type m ≡ Ok type → named_bound m ≡ Ok d
           → TermTold g top es (Named name) type d
       by_meaning None means typed is = absurd (cc typed)
@@ -111,23 +125,15 @@ module _ (g : Scene) (top : ℕ) (es : List Entry) (scope : IsScope g top es) wh
       by_meaning (Some (Constant kind (Some v))) means typed is =
           let exact : d ≡ Exactly v = sym (ok_same (Exactly v) d is) in
           let there : bound_of_term es (Named name) ≡ Ok d = ap named_bound means ∙ is in
-          as_bound g top es (ok_same (type_of_values kind) type typed) refl
-          (constant_told g top es (λ t. scalar_code (is_byte_reference (meaning_in name es)) (home_of g.homes es name))
-          (λ o. is_pushed (meaning_in name es)) true (type_of_values kind) d
-          (exact_value (bound_of_term es (Named name))) (sym (ap exact_value there))
-          (λ e. of_values g top es kind d (ends d) refl)
+          by_value kind there (ok_same (type_of_values kind) type typed)
           (λ u same. subst (FitsSigned w32) (exactly_same v u (sym exact ∙ same))
           (constant_housed g top (home_of g.homes es name) kind v (housed name (Constant kind (Some v)) means)))
           (λ none. absurd (cc (sym (ap (λ (b : Bound). exact_value (Ok b)) exact)
-          ∙ (sym (ap exact_value there) ∙ none)))))
+          ∙ (sym (ap exact_value there) ∙ none))))
       by_meaning (Some (Scalar kind of range)) means typed is =
           let within : d ≡ Within range = sym (ok_same (Within range) d is) in
           let there : bound_of_term es (Named name) ≡ Ok d = ap named_bound means ∙ is in
-          as_bound g top es (ok_same (type_of_values of) type typed) refl
-          (constant_told g top es (λ t. scalar_code (is_byte_reference (meaning_in name es)) (home_of g.homes es name))
-          (λ o. is_pushed (meaning_in name es)) true (type_of_values of) d
-          (exact_value (bound_of_term es (Named name))) (sym (ap exact_value there))
-          (λ e. of_values g top es of d (ends d) refl) (λ u same. absurd (cc (sym within ∙ same)))
+          by_value of there (ok_same (type_of_values of) type typed) (λ u same. absurd (cc (sym within ∙ same)))
           (λ none. record {
             range = range;
             is = of_values g top es of d range (ap ends (sym within));
@@ -136,7 +142,7 @@ module _ (g : Scene) (top : ℕ) (es : List Entry) (scope : IsScope g top es) wh
             tells = λ t low few all.
                 scalars_tell g top t es name kind of range (is_byte_reference (meaning_in name es))
                 (is_pushed (meaning_in name es)) true scope means;
-          }))
+          })
       by_meaning (Some (Array kind of size range)) means typed is = absurd (cc typed)
       by_meaning (Some (Channel of)) means typed is = absurd (cc typed)
       by_meaning (Some (Channels of size)) means typed is = absurd (cc typed)
@@ -373,94 +379,76 @@ module _ (g : Scene) (top : ℕ) (es : List Entry) (scope : IsScope g top es) (n
   abbrev small : Bool
   small = is_small es e
 
+  -- what has elements in this range, by the number of the only one or by the code of the subscript
+  element_found : (size : ℕ) (range : Ends) (type : ExprType) (d : Bound) (code : Option ℤ → ℕ → List Piece)
+      (offset : Option ℤ) → IsRangeOf type d range → IsRange range
+      → ((n t : ℕ) → pos n <ℤ pos size → Tells g es (code (Some (pos n)) t) t false small range)
+      → ((t : ℕ) → top ≤ t → IsFree t → SubscriptTold g top es e size offset
+      → Tells g es (code None t) t false small range)
+      → (single (Ok (ends b)) ≡ None → is_subscript size (ends b) ≡ true → SubscriptTold g top es e size offset)
+      → (o : Option ℤ) → single (Ok (ends b)) ≡ o → is_subscript size (ends b) ≡ true
+      → IsTold g top es (code o) false small type d
+  element_found size range type d code offset lies ranged known any subscript (Some c) one inside =
+      let only = only_element size (ends b) c one inside in
+      record {
+        range = range;
+        is = lies;
+        ranged = ranged;
+        tells = λ t low few.
+            subst (λ (z : ℤ). Tells g es (code (Some z) t) t false small range) (sym only.is)
+            (known only.number t only.inside);
+      }
+  element_found size range type d code offset lies ranged known any subscript None one inside = record {
+    range = range;
+    is = lies;
+    ranged = ranged;
+    tells = λ t low few. any t low few (subscript one inside);
+  }
+
   words_element : (w size : ℕ) (range : Ends) (d : Bound) (o : Option ℤ) → single (Ok (ends b)) ≡ o
       → is_subscript size (ends b) ≡ true → IsArray g es name value_type.Int (Word w) size range → full ≡ ends d
       → IsTold g top es (λ t. element_of_words value_type.Int w o (sub t)) false small types.Int d
-  words_element w size range d (Some c) one inside array same =
-      let only = only_element size (ends b) c one inside in
-      record {
-        range = full;
-        is = same;
-        ranged = full_ranged;
-        tells = λ t low few all s holds.
-            subst (λ (z : ℤ). PushedFact g.setting (element_of_words value_type.Int w (Some z) (sub t)) t false small
-            full s)
-            (sym only.is)
-            (known_words_tell g top t w only.number size es name range (sub t) false small scope array only.inside s
-            holds);
-      }
-  words_element w size range d None one inside array same =
-      let subscript = subscript_told g top es size e b typed is one inside told first in
-      record {
-        range = full;
-        is = same;
-        ranged = full_ranged;
-        tells = λ t low few all.
-            words_tell g top t w size es name range subscript.range (sub t) subscript.leaf small scope low array
-            subscript.select (subscript.tells t low few
-            (allowed_first g (before_offset (sub t)) (subscript_code value_type.Int w)
-            (allowed_first g (before_offset (sub t) ++ subscript_code value_type.Int w)
-            (loads_at (or_zero (offset_of es e)) ∷ []) all)));
-      }
+  words_element w size range d o one inside array same =
+      element_found size full types.Int d (λ o t. element_of_words value_type.Int w o (sub t)) (offset_of es e) same
+      full_ranged
+      (λ n t less all. known_words_tell g top t w n size es name range (sub t) false small scope array less)
+      (λ t low few subscript all.
+      words_tell g top t w size es name range subscript.range (sub t) subscript.leaf small scope low array
+      subscript.select (subscript.tells t low few
+      (allowed_first g (before_offset (sub t)) (subscript_code value_type.Int w)
+      (allowed_first g (before_offset (sub t) ++ subscript_code value_type.Int w)
+      (loads_at (or_zero (offset_of es e)) ∷ []) all))))
+      (λ several inside. subscript_told g top es size e b typed is several inside told first) o one inside
 
   bytes_element : (w size : ℕ) (range : Ends) (d : Bound) (o : Option ℤ) → single (Ok (ends b)) ≡ o
       → is_subscript size (ends b) ≡ true → IsArray g es name value_type.Byte (Word w) size range → bytes ≡ ends d
       → IsTold g top es (λ t. element_of_words value_type.Byte w o (sub t)) false small types.Byte d
-  bytes_element w size range d (Some c) one inside array same =
-      let only = only_element size (ends b) c one inside in
-      record {
-        range = bytes;
-        is = same;
-        ranged = bytes_ranged;
-        tells = λ t low few all s holds.
-            subst (λ (z : ℤ). PushedFact g.setting (element_of_words value_type.Byte w (Some z) (sub t)) t false small
-            bytes s) (sym only.is)
-            (known_bytes_tell g top t w only.number size es name range (sub t) small scope array only.inside s holds);
-      }
-  bytes_element w size range d None one inside array same =
-      let subscript = whole_told g top es e size b told one inside in
-      record {
-        range = bytes;
-        is = same;
-        ranged = bytes_ranged;
-        tells = λ t low few all.
-            bytes_tell g top t w size es name range subscript.range (sub t) subscript.leaf small scope low array
-            subscript.select (subscript.tells t low few
-            (allowed_first g (expression_code g.homes es t e) (subscript_code value_type.Byte w)
-            (allowed_first g (expression_code g.homes es t e ++ subscript_code value_type.Byte w)
-            (operates LOAD_BYTE ∷ []) all)));
-      }
+  bytes_element w size range d o one inside array same =
+      element_found size bytes types.Byte d (λ o t. element_of_words value_type.Byte w o (sub t)) None same bytes_ranged
+      (λ n t less all. known_bytes_tell g top t w n size es name range (sub t) small scope array less)
+      (λ t low few subscript all.
+      bytes_tell g top t w size es name range subscript.range (sub t) subscript.leaf small scope low array
+      subscript.select (subscript.tells t low few
+      (allowed_first g (expression_code g.homes es t e) (subscript_code value_type.Byte w)
+      (allowed_first g (expression_code g.homes es t e ++ subscript_code value_type.Byte w)
+      (operates LOAD_BYTE ∷ []) all))))
+      (λ several inside. whole_told g top es e size b told several inside) o one inside
 
   items_element : (values : List ℤ) (type : ValueType) (size : ℕ) (range : Ends) (d : Bound) (o : Option ℤ)
       → single (Ok (ends b)) ≡ o → is_subscript size (ends b) ≡ true
       → IsArray g es name type (home.Table values) size range → IsRange range → range ≡ ends d
       → IsTold g top es (λ t. element_of_table values o (sub t)) false small (type_of_values type) d
-  items_element values type size range d (Some c) one inside array ranged same =
-      let only = only_element size (ends b) c one inside in
-      record {
-        range = range;
-        is = of_values g top es type d range same;
-        ranged = ranged;
-        tells = λ t low few all s holds.
-            subst (λ (z : ℤ). PushedFact g.setting (element_of_table values (Some z) (sub t)) t false small range s)
-            (sym only.is)
-            (known_items_tell g top t only.number size es name type values range (sub t) small scope array all.0
-            only.inside s holds);
-      }
-  items_element values type size range d None one inside array ranged same =
-      let subscript = subscript_told g top es size e b typed is one inside told first in
-      record {
-        range = range;
-        is = of_values g top es type d range same;
-        ranged = ranged;
-        tells = λ t low few all.
-            let code : List Piece = before_offset (sub t) in
-            let rest : List Piece =
-            TableAddress values ∷ operates WORD_SUBSCRIPT ∷ loads_at (or_zero (offset_of es e)) ∷ [] in
-            items_tell g top t size es name type values range subscript.range (sub t) subscript.leaf small scope low
-            array (allowed_rest g code rest all).0 subscript.select
-            (subscript.tells t low few (allowed_first g code rest all));
-      }
+  items_element values type size range d o one inside array ranged same =
+      element_found size range (type_of_values type) d (λ o t. element_of_table values o (sub t)) (offset_of es e)
+      (of_values g top es type d range same) ranged
+      (λ n t less all. known_items_tell g top t n size es name type values range (sub t) small scope array all.0 less)
+      (λ t low few subscript all.
+      let code : List Piece = before_offset (sub t) in
+      let rest : List Piece =
+      TableAddress values ∷ operates WORD_SUBSCRIPT ∷ loads_at (or_zero (offset_of es e)) ∷ [] in
+      items_tell g top t size es name type values range subscript.range (sub t) subscript.leaf small scope low array
+      (allowed_rest g code rest all).0 subscript.select (subscript.tells t low few (allowed_first g code rest all)))
+      (λ several inside. subscript_told g top es size e b typed is several inside told first) o one inside
 
   -- an element of an array that has this home
   element_by : (o : Option Home) (kind : ArrayKind) (type : ValueType) (size : Option ℕ) (range : Ends) (d : Bound)
@@ -520,15 +508,7 @@ converted_told : (g : Scene) (top : ℕ) (es : List Entry) (to : ValueType) (x :
     → converted_type to s ≡ Ok type → converted_bound to b ≡ Ok d → TermTold g top es x s b
     → TermTold g top es (Converted to x) type d
 converted_told g top es to x types.Condition type b d typed gives told = absurd (cc typed)
-converted_told g top es to x types.Int type b d typed gives told =
-    as_bound g top es (ok_same (type_of_values to) type typed) refl (record {
-      range = told.range;
-      is = of_values g top es to d told.range (told.is
-          ∙ ap ends (passed_ok (is_within (ends b) (type_range to)) OUT_OF_RANGE b d gives).1);
-      ranged = told.ranged;
-      tells = told.tells;
-    })
-converted_told g top es to x types.Byte type b d typed gives told =
+converted_told g top es to x s type b d typed gives told =
     as_bound g top es (ok_same (type_of_values to) type typed) refl (record {
       range = told.range;
       is = of_values g top es to d told.range (told.is

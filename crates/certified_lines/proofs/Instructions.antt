@@ -15,24 +15,27 @@ use Rattle.word_arithmetic.specs.Unary.{unary_result_range}
 use Rattle.word_arithmetic.specs.declared.binary.Binary.TheVariants as binary
 use Rattle.word_arithmetic.specs.declared.unary.Unary.TheVariants as unary
 use Rattle.module_format.specs.Rows.{Fact}
-use Rattle.module_format.specs.declared.fact.Fact.TheVariants.{Unknown, Number, Pointer, CodeAddress, Loop}
-use Rattle.module_format.specs.declared.fact.Fact.TheVariants.{ReturnAddress}
+use Rattle.module_format.specs.declared.fact.Fact.TheVariants.{Unknown, Number}
 use Rattle.certificate.specs.Rights.{may_write_word, may_read_word}
 use Rattle.machine_state.specs.Instructions.{instruction_of, op_of}
 use Rattle.states.specs.declared.known.Known.{Known}
+use Rattle.states.specs.declared.known.Source.{Source}
+use Rattle.states.specs.declared.known.Source.TheVariants.{Nowhere}
 use Rattle.states.specs.declared.rule.Rule.TheVariants as rules
 use Rattle.states.specs.State.{State, written}
 use Rattle.rulings.specs.Rulings.{Ruling, Site, falls, breaks, outside_alternation, outside_starts, uses, reads_word}
-use Rattle.rulings.specs.Rulings.{writes_word, pays, goes_on}
+use Rattle.rulings.specs.Rulings.{writes_word, pays, goes_on, pop}
 use Rattle.local_rules.specs.LocalRules.{local_operation_rule, local_rule}
-use Rattle.local_rules.specs.WordRules.{known_constant, becomes, range_of, number_in, fact_of_two, unary_result_fact}
-use Rattle.local_rules.specs.WordRules.{shift_range, word_as_known}
+use Rattle.local_rules.specs.WordRules.{known_constant, becomes, range_of, number_in, unary_result_fact}
+use Rattle.local_rules.specs.WordRules.{shift_range, word_as_known, result_fact, fact_of_two, result_source}
+use Rattle.local_rules.specs.WordRules.{constant_source}
 use Rattle.rulings.specs.Pointers.{near}
 use Rattle.facts.specs.Rules.{rule, rule_of, instruction_rule, operation_rule}
 use Rattle.code_pieces.specs.declared.operations.TheConstants.{MINIMUM_INTEGER}
 use Rattle.code_pieces.specs.Pieces.{Direct, operates}
 use Rattle.code_pieces.specs.Laying.{operand_at}
 use Rattle.certified_lines.specs.StraightRules.{Setting, Told, done, next, table, state_of, with_pushed}
+use Rattle.certified_lines.specs.Instructions.{with_a, with_result}
 use Rattle.certified_lines.specs.Instructions.{PieceFalls, is_told, LeastWordIsKnown, ConstantsAreKnown}
 use Rattle.certified_lines.specs.Instructions.{LoadedWordsAreKnown, StoredWordsAreKnown, AddressesAreKnown}
 use Rattle.certified_lines.specs.Instructions.{TablesAreKnown, RegistersAreReversed, SumsWithConstantsAreKnown}
@@ -53,11 +56,7 @@ falls_by leaves = next (record { falls = leaves }) done
 told_by : (fact : Fact) (rest : Ruling) → is_told fact ≡ true
     → (elim fact as (λ f. Ruling) [ Unknown ↦ breaks rules.UnknownRegister | _ ↦ rest ]) ≡ rest
 told_by Unknown rest told = absurd (cc)
-told_by (Number lo hi) rest told = refl
-told_by (Pointer region lo hi step) rest told = refl
-told_by (CodeAddress offset) rest told = refl
-told_by (Loop base count weight) rest told = refl
-told_by ReturnAddress rest told = refl
+told_by fact rest told = refl
 
 -- a register of which something is known may be used
 pub uses_told : (k : Known) (rest : Fact → Ruling) → is_told k.fact ≡ true → uses k rest ≡ rest k.fact
@@ -140,11 +139,7 @@ first_told : (fact : Fact) (results : Ends → Option Fact) (result : Fact)
     → (elim (range_of fact) as (λ o. Option Fact) [ None ↦ None | Some r ↦ results r ]) ≡ Some result
     → is_told fact ≡ true
 first_told Unknown results result is = absurd (cc)
-first_told (Number lo hi) results result is = refl
-first_told (Pointer region lo hi step) results result is = refl
-first_told (CodeAddress offset) results result is = refl
-first_told (Loop base count weight) results result is = refl
-first_told ReturnAddress results result is = refl
+first_told fact results result is = refl
 
 second_told : (o : Option Ends) (fact : Fact) (results : Ends → Ends → Option Fact) (result : Fact)
     → (elim o as (λ o. Option Fact) [
@@ -168,42 +163,61 @@ unfolding fact_of_two
 right_is_told results left right result is =
     second_told (range_of left) right (λ r s. option_map number_in (results r s)) result is
 
+module _ (g : Setting) (s : Told) (fact : Fact) (source : Source) (at size number : ℕ) (enough : size ≤ number) where
+  abbrev site : Site
+  site = record { contents = g.contents; at = at; length = size }
+
+  -- A becomes what is found of it
+  found_falls : (found : Fact → Option Fact) → is_told s.stack.a.fact ≡ true → found s.stack.a.fact ≡ Some fact
+      → uses s.stack.a (λ a. becomes site (found a) source (state_of g s number))
+      ≡ falls (state_of g (with_a (record { fact = fact; source = source }) s) (number - size))
+  unfolding outside_alternation outside_starts becomes goes_on pays
+  found_falls found told is = rw (uses_told, is, le-ltb number size enough) refl
+
+  -- a result is in the place of B and A
+  result_falls : (results : Ends → Ends → Option Ends) → fact_of_two results s.stack.b.fact s.stack.a.fact ≡ Some fact
+      → uses s.stack.a (λ a. uses s.stack.b (λ b.
+      becomes site (fact_of_two results b a) source (pop (state_of g s number))))
+      ≡ falls (state_of g (with_result (record { fact = fact; source = source }) s) (number - size))
+  unfolding outside_alternation outside_starts becomes goes_on pays
+  result_falls results is =
+      let left = left_is_told results s.stack.b.fact s.stack.a.fact fact is in
+      let right = right_is_told results s.stack.b.fact s.stack.a.fact fact is in
+      rw (uses_told, uses_told, is, le-ltb number size enough) refl
+
 pub sums_with_constants_are_known : SumsWithConstantsAreKnown
-unfolding rule rule_of instruction_rule local_rule instruction_of outside_alternation outside_starts becomes goes_on
-    pays
+unfolding rule rule_of instruction_rule local_rule instruction_of
 sums_with_constants_are_known g e fact s is =
     let told = left_is_told (result_range binary.Add) s.stack.a.fact (Number e e) fact is in
-    falls_by (λ at size number pays. rw (uses_told, is, le-ltb number size pays) refl)
+    falls_by (λ at size number pays.
+    found_falls g s fact Nowhere at size number pays (λ a. result_fact binary.Add a (Number e e)) told is)
 
 pub compared_constants_are_known : ComparedConstantsAreKnown
-unfolding rule rule_of instruction_rule local_rule instruction_of outside_alternation outside_starts becomes goes_on
-    pays
+unfolding rule rule_of instruction_rule local_rule instruction_of
 compared_constants_are_known g e fact s is =
     let told = left_is_told (result_range binary.Equal) s.stack.a.fact (Number e e) fact is in
-    falls_by (λ at size number pays. rw (uses_told, is, le-ltb number size pays) refl)
+    falls_by (λ at size number pays.
+    found_falls g s fact (constant_source binary.Equal s.stack.a e) at size number pays
+    (λ a. result_fact binary.Equal a (Number e e)) told is)
 
 pub turned_bits_are_known : TurnedBitsAreKnown
-unfolding rule rule_of instruction_rule operation_rule local_operation_rule instruction_of op_of outside_alternation
-    outside_starts becomes unary_result_fact goes_on pays
+unfolding rule rule_of instruction_rule operation_rule local_operation_rule instruction_of op_of unary_result_fact
 turned_bits_are_known g fact s is =
     let told = first_told s.stack.a.fact (λ r. option_map number_in (unary_result_range unary.Not r)) fact is in
-    falls_by (λ at size number pays. rw (uses_told, is, le-ltb number size pays) refl)
+    falls_by (λ at size number pays.
+    found_falls g s fact Nowhere at size number pays (unary_result_fact unary.Not) told is)
 
 pub results_are_known : ResultsAreKnown
-unfolding rule rule_of instruction_rule operation_rule local_operation_rule instruction_of outside_alternation
-    outside_starts becomes goes_on pays
+unfolding rule rule_of instruction_rule operation_rule local_operation_rule instruction_of
 results_are_known g operation op fact s named is =
-    let left = left_is_told (result_range op) s.stack.b.fact s.stack.a.fact fact is in
-    let right = right_is_told (result_range op) s.stack.b.fact s.stack.a.fact fact is in
-    falls_by (λ at size number pays. rw (named, uses_told, uses_told, is, le-ltb number size pays) refl)
+    falls_by (λ at size number pays.
+    rw named
+    (result_falls g s fact (result_source op s.stack.b s.stack.a) at size number pays (result_range op) is))
 
 pub shifted_words_are_known : ShiftedWordsAreKnown
-unfolding rule rule_of instruction_rule operation_rule local_operation_rule instruction_of outside_alternation
-    outside_starts becomes goes_on pays
+unfolding rule rule_of instruction_rule operation_rule local_operation_rule instruction_of
 shifted_words_are_known g operation op fact s named is =
-    let left = left_is_told (shift_range op) s.stack.b.fact s.stack.a.fact fact is in
-    let right = right_is_told (shift_range op) s.stack.b.fact s.stack.a.fact fact is in
-    falls_by (λ at size number pays. rw (named, uses_told, uses_told, is, le-ltb number size pays) refl)
+    falls_by (λ at size number pays. rw named (result_falls g s fact Nowhere at size number pays (shift_range op) is))
 
 pub ruleset words = (
   least_word_is_known,

@@ -7,7 +7,6 @@ pub mod Walking
 pub mod Arrays
 pub mod Telling
 pub mod Ranges
-pub mod Named
 pub mod Operands
 pub mod Arithmetic
 pub mod Comparing

@@ -1,10 +1,7 @@
 -- What the rule leaves that moves bytes.
-use Rattle.std.proofs.Common.{◌≡◌, ℕ, ◌-◌, ◌≤◌, ℤ, ◌+ℤ◌, Bool, true, false, Ok, refl}
+use Rattle.std.proofs.Common.{◌≡◌, ℕ, ◌-◌, ◌≤◌, ℤ, ◌+ℤ◌, Bool, true, false, refl}
 use Rattle.std.proofs.lemmas.Bool.{le-ltb}
 use Rattle.std.specs.Prelude.{nat_lt}
-use Rattle.module_format.specs.Rows.{Fact}
-use Rattle.module_format.specs.declared.fact.Fact.TheVariants.{Unknown, Number, Pointer, CodeAddress, Loop}
-use Rattle.module_format.specs.declared.fact.Fact.TheVariants.{ReturnAddress}
 use Rattle.module_format.specs.Regions.{is_frame}
 use Rattle.module_format.specs.Stack.{of_empty}
 use Rattle.machine_state.specs.Instructions.{instruction_of, op_of}
@@ -12,35 +9,16 @@ use Rattle.states.specs.Spans.{after_change}
 use Rattle.states.specs.State.{State, unknown}
 use Rattle.rulings.specs.declared.pointers.Pointed.{Pointed}
 use Rattle.rulings.specs.Rulings.{Site, outside_alternation, outside_starts, settles, in_bounds, pays, goes_on, falls}
-use Rattle.rulings.specs.Pointers.{constant_of, exact_pointer, leaves_words, byte_read}
+use Rattle.rulings.specs.Pointers.{leaves_words, byte_read}
 use Rattle.rulings.specs.Filling.{are_numbers, filled, become_numbers, words_within}
 use Rattle.local_rules.specs.LocalRules.{local_operation_rule}
 use Rattle.local_rules.specs.MoveRules.{amount, come, moves_some, moves_bytes, clears}
 use Rattle.facts.specs.Rules.{rule, rule_of, instruction_rule, operation_rule}
 use Rattle.certified_lines.specs.StraightRules.{Setting, Told, state_of}
-use Rattle.certified_lines.specs.Instructions.{is_told}
 use Rattle.certified_lines.specs.Addresses.{told_state}
 use Rattle.certified_lines.specs.Moving.{MovedBytesAreKnown}
 use Rattle.certified_lines.proofs.Instructions.{falls_by, uses_told}
-use Rattle.certified_lines.proofs.Addresses.{read_open, write_open}
-
-exact_told : (fact : Fact) (p : Pointed) → exact_pointer fact ≡ Ok p → is_told fact ≡ true
-unfolding exact_pointer
-exact_told Unknown p is = absurd (cc)
-exact_told (Number lo hi) p is = refl
-exact_told (Pointer region lo hi step) p is = refl
-exact_told (CodeAddress offset) p is = refl
-exact_told (Loop base count weight) p is = refl
-exact_told ReturnAddress p is = refl
-
-constant_told : (fact : Fact) (v : ℤ) → constant_of fact ≡ Ok v → is_told fact ≡ true
-unfolding constant_of
-constant_told Unknown v is = absurd (cc)
-constant_told (Number lo hi) v is = refl
-constant_told (Pointer region lo hi step) v is = refl
-constant_told (CodeAddress offset) v is = refl
-constant_told (Loop base count weight) v is = refl
-constant_told ReturnAddress v is = refl
+use Rattle.certified_lines.proofs.Addresses.{ask_told, read_open, write_open}
 
 -- the state without registers, with what is known of these words
 abbrev cleared : Setting → State → ℕ → State
@@ -71,17 +49,22 @@ pub moved_bytes_are_known : MovedBytesAreKnown
 unfolding rule rule_of instruction_rule operation_rule local_operation_rule instruction_of op_of settles in_bounds
     amount moves_bytes moves_some come byte_read
 moved_bytes_are_known g count to from s may =
-    let a = constant_told s.stack.a.fact count may.counts in
-    let b = exact_told s.stack.b.fact to may.comes_to in
-    let c = exact_told s.stack.c.fact from may.comes_from in
-    let counts = may.counts in
-    let there = may.comes_to in
-    let here = may.comes_from in
-    let some = may.some in
-    let fits = may.fits in
+    let a = ask_told.constant s.stack.a.fact count may.counts in
+    let b = ask_told.exact s.stack.b.fact to may.comes_to in
+    let c = ask_told.exact s.stack.c.fact from may.comes_from in
     let reads = may.reads in
     let writes = may.writes in
-    let comes = may.apart in
     falls_by (λ at size number pays.
-    rw (uses_told, uses_told, uses_told, counts, fits, there, here, some, read_open, write_open, comes)
-    (clears_all g at size number pays s to (to.hi +ℤ count) (are_numbers (told_state g s) from count)))
+    rw (
+      uses_told,
+      uses_told,
+      uses_told,
+      may.counts,
+      may.fits,
+      may.comes_to,
+      may.comes_from,
+      may.some,
+      read_open,
+      write_open,
+      may.apart,
+    ) (clears_all g at size number pays s to (to.hi +ℤ count) (are_numbers (told_state g s) from count)))

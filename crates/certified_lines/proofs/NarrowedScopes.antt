@@ -1,6 +1,6 @@
 -- A scope is held once it is narrowed.
 use Rattle.std.proofs.Common.{◌≡◌, ℕ, suc, ◌+◌, ℤ, pos, Bool, true, false, cond, List, [], ◌∷◌, length, bytes_eq}
-use Rattle.std.proofs.Common.{Option, Some, None, refl, sym, ap, subst, ◌∙◌}
+use Rattle.std.proofs.Common.{Option, Some, refl, sym, ap, subst, ◌∙◌}
 use Rattle.std.specs.Prelude.{slice_get, option_and_then, option_map, unwrap_or}
 use Rattle.word_arithmetic.specs.Range.{Ends, IsRange, narrowed}
 use Rattle.word_arithmetic.specs.declared.compare.Comparison.{Comparison}
@@ -8,11 +8,9 @@ use Rattle.word_arithmetic.proofs.EndsLaws.{words_in_order_are_ranges}
 use Rattle.occam_parser.specs.declared.tree.ValueType.{ValueType}
 use Rattle.states.specs.State.{Facts}
 use Rattle.scalar_ranges.specs.declared.scope.ScalarKind.{ScalarKind}
-use Rattle.scalar_ranges.specs.Entries.{Meaning, Constant, Scalar, Array, Channel, Channels, Procedure, Entry}
-use Rattle.scalar_ranges.specs.Entries.{meaning_in, number_in as number_of_name}
+use Rattle.scalar_ranges.specs.Entries.{Meaning, Scalar, Entry, meaning_in, number_in as number_of_name}
 use Rattle.scalar_ranges.specs.Narrowing.{Tested, changed, with_range, left_of, as_holds, by_test}
-use Rattle.line_pieces.specs.Homes as home
-use Rattle.line_pieces.specs.Homes.{Home, Nowhere, Word, Block, Link, Passed, home_of}
+use Rattle.line_pieces.specs.Homes.{Home, Word, home_of}
 use Rattle.certified_lines.specs.Scopes.{Scene, EachNameHas, AreKnownThere, HoldsScope, IsHousedThere}
 use Rattle.certified_lines.specs.TestLaws.{OneWordIs, where_it}
 use Rattle.certified_lines.specs.NarrowedScopes.{IsBesideThere, AreBeside, OneWordBecomes, ChangedScopesHold}
@@ -31,7 +29,7 @@ use Rattle.states.specs.State.{is_at, is_parted, is_same_number, with_fact}
 use Rattle.std.proofs.Common.{◌-ℤ◌, arith}
 use Rattle.std.proofs.lemmas.Int.{ints}
 use Rattle.word_arithmetic.specs.Range.{full}
-use Rattle.certified_lines.proofs.Telling.{each_has, name_has}
+use Rattle.certified_lines.proofs.Telling.{each_has, name_has, name_stays}
 use Rattle.certified_lines.proofs.Conditions.{comparisons_test}
 
 -- ---- other names
@@ -53,32 +51,17 @@ module _ (g : Scene) (w : ℕ) (q : Ends) (old new : Facts) (one : OneWordBecome
 
   beside_stays : (h : Option Home) (k : Meaning) → AreKnownThere g old h k → IsBesideThere w h k
       → AreKnownThere g new h k
-  beside_stays None k is apart = absurd is
-  beside_stays (Some h) (Constant type value) is apart = is
-  beside_stays (Some h) (Channel type) is apart = is
-  beside_stays (Some h) (Channels type size) is apart = is
-  beside_stays (Some h) (Procedure number) is apart = is
-  beside_stays (Some Nowhere) (Scalar kind type range) is apart = is
-  beside_stays (Some (Word v)) (Scalar kind type range) is apart = alone_stays v range apart is
-  beside_stays (Some (Block v head)) (Scalar kind type range) is apart =
+  beside_stays h k is apart =
+      name_stays g old new (IsBesideThere w) (λ v kind type range apart is. alone_stays v range apart is)
+      (λ v head kind type range apart is.
       let back : pos (v + 1) -ℤ pos 1 ≡ pos v = omega (arith, ints) in (
         word_stays v (Index (loop_of g head range)) apart.0 is.0
             (other_word (pos (v + 1)) (pos w) (λ same. apart.1 (one_word (v + 1) w same))),
         word_stays (v + 1) (Count (loop_of g head range)) apart.1 is.1
             (ap (λ (z : ℤ). is_same_number z (pos w)) back
             ∙ other_word (pos v) (pos w) (λ same. apart.0 (one_word v w same))),
-      )
-  beside_stays (Some (Link n)) (Scalar kind type range) is apart = is
-  beside_stays (Some (home.Table values)) (Scalar kind type range) is apart = is
-  beside_stays (Some (Passed v)) (Scalar kind type range) is apart = is
-  beside_stays (Some Nowhere) (Array kind type size range) is apart = is
-  beside_stays (Some (Word v)) (Array kind type None range) is apart = is
-  beside_stays (Some (Word v)) (Array kind type (Some size) range) is apart =
-      λ n less. alone_stays (v + n) full (apart n less) (is n less)
-  beside_stays (Some (Block v head)) (Array kind type size range) is apart = is
-  beside_stays (Some (Link n)) (Array kind type size range) is apart = is
-  beside_stays (Some (home.Table values)) (Array kind type size range) is apart = is
-  beside_stays (Some (Passed v)) (Array kind type size range) is apart = is
+      ))
+      (λ v n size kind type range apart less is. alone_stays (v + n) full (apart n less) is) h k apart is
 
 -- ---- the scalar
 

@@ -15,6 +15,7 @@ use Rattle.module_format.specs.declared.fact.Fact.TheVariants.{Number}
 use Rattle.states.specs.declared.known.Known.{Known}
 use Rattle.local_rules.specs.WordRules.{range_of, number_in, fact_of_two, unary_result_fact, shift_range}
 use Rattle.local_rules.specs.WordRules.{equal_source, greater_source}
+use Rattle.certified_lines.specs.StraightRules.{Told}
 use Rattle.certified_lines.specs.Numbers.{IsNumberIn, ResultsLieInRanges, SumsLieInRanges, ComparisonsAreTruths}
 use Rattle.certified_lines.specs.Numbers.{TurnedBitsLieInRanges, ShiftsLieInRanges, GreaterWordsAreTold}
 use Rattle.certified_lines.specs.Numbers.{LesserWordsAreTold, EqualWordsAreTold, OppositesAreTold}
@@ -60,13 +61,19 @@ one_told fact r is = ap (λ (o : Option Ends). elim o as (λ o. Option Fact) [
   | Some r ↦ option_map number_in (unary_result_range unary.Not r)
 ]) is
 
+-- the results of what is in B and A
+registers_told : (results : Ends → Ends → Option Ends) (r s q : Ends) (t : Told) → IsNumberIn t.stack.b r
+    → IsNumberIn t.stack.a s → results r s ≡ Some q
+    → fact_of_two results t.stack.b.fact t.stack.a.fact ≡ Some (number_in q)
+registers_told results r s q t left right is =
+    two_told results t.stack.b.fact t.stack.a.fact r s q (known_range t.stack.b r left) (known_range t.stack.a s right)
+    is
+
 -- ---- results
 
 pub results_lie_in_ranges : ResultsLieInRanges
 results_lie_in_ranges g operation op r s q t named left right is =
-    results_are_known g operation op (number_in q) t named
-    (two_told (result_range op) t.stack.b.fact t.stack.a.fact r s q (known_range t.stack.b r left)
-    (known_range t.stack.a s right) is)
+    results_are_known g operation op (number_in q) t named (registers_told (result_range op) r s q t left right is)
 
 pub sums_lie_in_ranges : SumsLieInRanges
 sums_lie_in_ranges g e r q t number fits is =
@@ -91,9 +98,7 @@ turned_bits_lie_in_ranges g r t number =
 
 pub shifts_lie_in_ranges : ShiftsLieInRanges
 shifts_lie_in_ranges g operation op r s q t named left right is =
-    shifted_words_are_known g operation op (number_in q) t named
-    (two_told (shift_range op) t.stack.b.fact t.stack.a.fact r s q (known_range t.stack.b r left)
-    (known_range t.stack.a s right) is)
+    shifted_words_are_known g operation op (number_in q) t named (registers_told (shift_range op) r s q t left right is)
 
 -- ---- what comparisons tell of words
 

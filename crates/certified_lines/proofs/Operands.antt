@@ -344,30 +344,22 @@ record AreRanged (op : Binary) (q : Ends) (k : Stack Known) : Type 0 where
   a : IsNumberIn k.a second
   gives : result_range op first second ≡ Some q
 
+ranged_in_order : (op : Binary) (r s q : Ends) (k : Stack Known) → IsRange r → IsRange s → AreTold true r s k
+    → result_range op r s ≡ Some q → AreRanged op q k
+ranged_in_order op r s q k x y are gives = record {
+  first = r;
+  second = s;
+  b = record { is = are.0; range = x };
+  a = record { is = are.1; range = y };
+  gives = gives;
+}
+
 ranged : (in_order : Bool) (op : Binary) (r s q : Ends) (k : Stack Known) → IsRange r → IsRange s
     → AreTold in_order r s k → result_range op r s ≡ Some q → (in_order ≡ false → result_range op s r ≡ Some q)
     → AreRanged op q k
-ranged true op r s q k x y are gives either = record {
-  first = r;
-  second = s;
-  b = record { is = are.0; range = x };
-  a = record { is = are.1; range = y };
-  gives = gives;
-}
-ranged false op r s q k x y (inl are) gives either = record {
-  first = r;
-  second = s;
-  b = record { is = are.0; range = x };
-  a = record { is = are.1; range = y };
-  gives = gives;
-}
-ranged false op r s q k x y (inr are) gives either = record {
-  first = s;
-  second = r;
-  b = record { is = are.0; range = y };
-  a = record { is = are.1; range = x };
-  gives = either refl;
-}
+ranged true op r s q k x y are gives either = ranged_in_order op r s q k x y are gives
+ranged false op r s q k x y (inl are) gives either = ranged_in_order op r s q k x y are gives
+ranged false op r s q k x y (inr are) gives either = ranged_in_order op s r q k y x are (either refl)
 
 -- an operation of two operands that are pushed
 pub operation_behind : (g : Setting) (ps : List Piece) (t : ℕ) (in_order kept : Bool) (calm : Type 0)

@@ -2,10 +2,9 @@
 use Rattle.std.proofs.Common.{◌≡◌, ℤ, pos, Bool, true, false, ◌&&◌, cond, Option, Some, None, refl, ap}
 use Rattle.std.proofs.Common.{subst, ◌∙◌, arith, FitsSigned}
 use Rattle.std.specs.Prelude.{◌+ℤ◌, ◌-ℤ◌, ◌*ℤ◌}
-use Rattle.std.specs.Int.{w32, int_min, int_max, cast_unsigned, cast_signed}
+use Rattle.std.specs.Int.{w32, int_min, int_max}
 use Rattle.std.proofs.Math.IntN.{+ℤ_comm, *ℤ_comm}
 use Rattle.std.proofs.lemmas.Int.{ints, clamps}
-use Rattle.std.proofs.lemmas.Nat as nat
 use lib.Count.{count_leading_zeros}
 use Rattle.word_arithmetic.specs.Word.{is_word, checked_difference, word_not, word_and, word_or, word_xor}
 use Rattle.word_arithmetic.specs.Range as ranges
@@ -19,6 +18,7 @@ use Rattle.word_arithmetic.specs.declared.unary.Unary.TheVariants as unary
 use Rattle.word_arithmetic.proofs.BitLaws.{word_not_is}
 use Rattle.word_arithmetic.proofs.WordLaws.{is_word_out}
 use Rattle.word_arithmetic.proofs.RangesOfRanges.{unary_gives_ranges}
+use Rattle.placed_code.proofs.WordsTurned.{and_turned, or_turned, xor_turned}
 use Rattle.certified_lines.specs.Telling.{truth_range}
 
 -- ---- constants
@@ -107,15 +107,6 @@ unfolding paired
 products_turned r s =
     ap fitting ((λ i. paired (*ℤ_comm s.lo r.lo i) (*ℤ_comm s.lo r.hi i) (*ℤ_comm s.hi r.lo i) (*ℤ_comm s.hi r.hi i))
     ∙ crossed (r.lo *ℤ s.lo) (r.hi *ℤ s.lo) (r.lo *ℤ s.hi) (r.hi *ℤ s.hi))
-
-and_turned : (x y : ℤ) → word_and y x ≡ word_and x y
-and_turned x y = ap (cast_signed w32) (nat.and_comm (cast_unsigned w32 y) (cast_unsigned w32 x))
-
-or_turned : (x y : ℤ) → word_or y x ≡ word_or x y
-or_turned x y = ap (cast_signed w32) (nat.or_comm (cast_unsigned w32 y) (cast_unsigned w32 x))
-
-xor_turned : (x y : ℤ) → word_xor y x ≡ word_xor x y
-xor_turned x y = ap (cast_signed w32) (nat.xor_comm (cast_unsigned w32 y) (cast_unsigned w32 x))
 
 both_turned : (p q : Bool) → (q && p) ≡ (p && q)
 both_turned true true = refl

@@ -31,23 +31,25 @@ use Rattle.local_rules.specs.WordRules.{word_and_constant, test_of}
 use Rattle.facts.specs.Rules.{rule, rule_of, instruction_rule, operation_rule}
 use Rattle.occam_parser.specs.declared.tree.PairOperator.TheVariants as pair
 use Rattle.scalar_ranges.specs.Entries.{Entry}
-use Rattle.code_pieces.specs.declared.operations.TheConstants.{DIFFERENCE, GREATER, REVERSE, LOAD_BYTE, MINIMUM_INTEGER}
+use Rattle.code_pieces.specs.declared.operations.TheConstants.{DIFFERENCE, GREATER, LOAD_BYTE, MINIMUM_INTEGER}
 use Rattle.code_pieces.specs.Pieces.{Piece, Direct, operates, constant}
 use Rattle.line_pieces.specs.Expressions.{Operand, both, comes_last, pushed, pushes_of, pair_code, negates}
 use Rattle.line_pieces.specs.Expressions.{after_constant}
 use Rattle.line_pieces.specs.Expressions.{next_above, next_below, on_constant, below_constant, negated_unless, loads_at}
+use Rattle.placed_code.proofs.OperandsName.{operands_name}
+use Rattle.placed_code.proofs.OperandsKeep.{by_next}
 use Rattle.certified_lines.specs.StraightRules.{Setting, Told, Falls, FallOn, state_of}
-use Rattle.certified_lines.specs.Instructions.{with_a, with_result}
+use Rattle.certified_lines.specs.Instructions.{with_result}
 use Rattle.certified_lines.specs.Scopes.{Scene, HoldsScope, IsScope}
 use Rattle.certified_lines.specs.Telling.{StayBefore, IsQuiet, ComesFromNowhere, AreFromNowhere, AreAllowed, PushedFact}
 use Rattle.certified_lines.specs.Telling.{IsFree, OperandTells}
 use Rattle.certified_lines.specs.OperandLaws.{IsOnly}
 use Rattle.certified_lines.proofs.StraightRules.{fall_both}
-use Rattle.certified_lines.proofs.Numbers.{results_lie_in_ranges, comparisons_are_truths}
-use Rattle.certified_lines.proofs.Named.{operands_name}
-use Rattle.certified_lines.proofs.Operands.{both_tell, allowed_first, allowed_rest, quiet_of}
+use Rattle.certified_lines.proofs.Numbers.{results_lie_in_ranges}
+use Rattle.certified_lines.proofs.Operands.{both_tell, allowed_first, quiet_of}
 use Rattle.certified_lines.proofs.Comparing.{greater_range, truths_ranged, zero_fits, above_fits, below_fits, only_fits}
-use Rattle.certified_lines.proofs.Comparing.{either_differ, Compared, over_constant, under_constant}
+use Rattle.certified_lines.proofs.Comparing.{either_differ, Compared, over_constant, under_constant, constant_allowed}
+use Rattle.certified_lines.proofs.Comparing.{compared_told, compared_falls}
 use Rattle.certified_lines.specs.TestLaws.{ShowsNothing}
 use Rattle.certified_lines.proofs.Sources.{last_falls, one_falls, source_after, no_break, used}
 use Rattle.word_arithmetic.specs.Range.{range_between, left_by}
@@ -183,9 +185,8 @@ negated_shows : (g : Setting) (ps : List Piece) (t : ℕ) (before : Told) → Sh
 negated_shows g ps t before shown =
     let k = shown.after in
     record {
-      after = with_a (record { fact = number_in truths; source = equal_source k.stack.a (pos 0) }) k;
-      falls = fall_both shown.falls (comparisons_are_truths g (pos 0) truths k
-          (record { is = shown.fact; range = truths_ranged }) zero_fits);
+      after = compared_told (pos 0) k;
+      falls = fall_both shown.falls (compared_falls g (pos 0) truths k shown.fact truths_ranged zero_fits);
       fact = refl;
       source = equal_quiet t k.stack.a (pos 0) shown.source;
       stay = shown.stay;
@@ -211,15 +212,6 @@ told_from_nowhere g ps qs t leaf before c calm =
       source = subst (IsQuiet t) (sym c.source) (greater_quiet t c.left c.right quiet.0 quiet.1);
       stay = told.stay;
     }
-
--- what is allowed behind a constant
-constant_allowed : (g : Scene) (c : ℤ) (small : Bool) (ps : List Piece)
-    → AreAllowed g (after_constant c small ps ++ operates GREATER ∷ []) → AreAllowed g ps
-constant_allowed g c true ps all =
-    allowed_first g ps (operates GREATER ∷ []) (allowed_rest g (constant c ∷ []) (ps ++ operates GREATER ∷ []) all)
-constant_allowed g c false ps all =
-    allowed_first g ps (constant c ∷ operates REVERSE ∷ [])
-    (allowed_first g (ps ++ constant c ∷ operates REVERSE ∷ []) (operates GREATER ∷ []) all)
 
 module _ (g : Scene) (top t : ℕ) (es : List Entry) (scope : IsScope g top es) (low : top ≤ t) (few : IsFree t)
     (before : Told) (holds : HoldsScope g es before.frame) where
@@ -267,9 +259,8 @@ module _ (g : Scene) (top t : ℕ) (es : List Entry) (scope : IsScope g top es) 
   constant_shows ps leaf small r c x fits calm p =
       let k = p.after in
       record {
-        after = with_a (record { fact = number_in truths; source = equal_source k.stack.a c }) k;
-        falls = fall_both p.falls
-            (comparisons_are_truths g.setting c r k (record { is = p.a; range = x }) fits);
+        after = compared_told c k;
+        falls = fall_both p.falls (compared_falls g.setting c r k p.a x fits);
         fact = refl;
         source = equal_quiet t k.stack.a c (quiet_of t k.stack.a.source (calm before k p.falls));
         stay = p.stay;
@@ -323,27 +314,19 @@ module _ (g : Scene) (top t : ℕ) (es : List Entry) (scope : IsScope g top es) 
   less first None only all = in_turn (allowed_first g second_first (operates GREATER ∷ []) all)
   less first (Some c) only all = over c (only_fits c s y only) all
 
-  less_or_equal : (second o : Option ℤ) → next_above second ≡ o
-      → AreAllowed g (pushed (on_constant (pushes_of (pair.Comparison comparison.Greater) None None) o) t a b
-      ++ operates GREATER ∷ negated_unless o)
-      → ShowsNothing g.setting (pushed (on_constant (pushes_of (pair.Comparison comparison.Greater) None None) o) t a b
-      ++ operates GREATER ∷ negated_unless o) t before
-  less_or_equal second None next all =
-      negated_behind g.setting first_second (operates GREATER ∷ []) t before
-      (in_order (allowed_first g first_second (operates GREATER ∷ negates ∷ []) all))
-  less_or_equal None (Some d) next all = absurd (cc)
-  less_or_equal (Some c) (Some d) next all = over d (above_fits c d next) all
+  -- with a constant that is next to the second operand, or with both operands
+  abbrev NextShows : (Option ℤ → List Piece) → Option ℤ → Type 0
+  NextShows operands o =
+      let code : List Piece = operands o ++ operates GREATER ∷ negated_unless o in
+      AreAllowed g code → ShowsNothing g.setting code t before
 
-  greater_or_equal : (second o : Option ℤ) → next_below second ≡ o
-      → AreAllowed g (pushed (below_constant (pushes_of (pair.Comparison comparison.Less) None None) o) t a b
-      ++ operates GREATER ∷ negated_unless o)
-      → ShowsNothing g.setting (pushed (below_constant (pushes_of (pair.Comparison comparison.Less) None None) o) t a b
-      ++ operates GREATER ∷ negated_unless o) t before
-  greater_or_equal second None next all =
-      negated_behind g.setting second_first (operates GREATER ∷ []) t before
-      (in_turn (allowed_first g second_first (operates GREATER ∷ negates ∷ []) all))
-  greater_or_equal None (Some d) next all = absurd (cc)
-  greater_or_equal (Some c) (Some d) next all = under d (below_fits c d next) all
+  -- the opposite of the comparison of both operands
+  opposite : (code : List Piece) → (AreAllowed g code → ShowsNothing g.setting (code ++ operates GREATER ∷ []) t before)
+      → AreAllowed g (code ++ operates GREATER ∷ negates ∷ [])
+      → ShowsNothing g.setting (code ++ operates GREATER ∷ negates ∷ []) t before
+  opposite code shows all =
+      negated_behind g.setting code (operates GREATER ∷ []) t before
+      (shows (allowed_first g code (operates GREATER ∷ negates ∷ []) all))
 
   equal : (first second : Option ℤ) → IsOnly first r → IsOnly second s → Shows comparison.Equal first second
   equal first (Some c) is only all =
@@ -366,11 +349,16 @@ module _ (g : Scene) (top t : ℕ) (es : List Entry) (scope : IsScope g top es) 
       (equal first second is only (allowed_first g (code ++ compares) (negates ∷ [])
       (subst (λ (rs : List Piece). AreAllowed g rs) (sym (append_assoc code compares (negates ∷ []))) all)))
   compared_shows comparison.Less first second is only all = less first second only all
-  compared_shows comparison.LessOrEqual first second is only all = less_or_equal second (next_above second) refl all
+  compared_shows comparison.LessOrEqual first second is only all =
+      by_next next_above (λ o. IsOnly o s)
+      (NextShows (λ o. pushed (on_constant (pushes_of (pair.Comparison comparison.Greater) None None) o) t a b)) refl
+      (opposite first_second in_order) (λ c d is next all. over d (above_fits c d next) all) second only all
   compared_shows comparison.Greater first second is only all =
       in_order (allowed_first g first_second (operates GREATER ∷ []) all)
   compared_shows comparison.GreaterOrEqual first second is only all =
-      greater_or_equal second (next_below second) refl all
+      by_next next_below (λ o. IsOnly o s)
+      (NextShows (λ o. pushed (below_constant (pushes_of (pair.Comparison comparison.Less) None None) o) t a b)) refl
+      (opposite second_first in_turn) (λ c d is next all. under d (below_fits c d next) all) second only all
 
 -- ---- what it narrows
 

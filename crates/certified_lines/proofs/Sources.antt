@@ -37,9 +37,10 @@ use Rattle.line_pieces.specs.Expressions.{unless, is_known, beside, pushed, push
 use Rattle.occam_parser.specs.declared.tree.PairOperator.TheVariants as pair
 use Rattle.word_arithmetic.specs.declared.compare.Comparison.TheVariants as comparison
 use Rattle.line_pieces.specs.Expressions.{is_small_term}
+use Rattle.placed_code.specs.OperandsName.{IsBinary}
+use Rattle.placed_code.proofs.OperandsName.{operands_name}
 use Rattle.certified_lines.specs.StraightRules.{Setting, Told, Falls, FallOn, done, next, table, state_of}
 use Rattle.certified_lines.specs.TestLaws.{ChainsTellNothing}
-use Rattle.certified_lines.proofs.Named.{Names, operands_name}
 use Rattle.certified_lines.proofs.Fronts.{uncovered}
 use Rattle.certified_lines.proofs.Induction.{expressions_tell}
 
@@ -111,7 +112,7 @@ unfolding becomes outside_alternation outside_starts goes_on pays source_after
 result_from g m None source t is = absurd (no_break rules.Number t is)
 result_from g m (Some fact) source t is = ap source_after is
 
-operation_from : (g : Setting) (operation : ℤ) (op : Binary) (m t : Told) → Names operation op
+operation_from : (g : Setting) (operation : ℤ) (op : Binary) (m t : Told) → IsBinary operation op
     → Falls g fun.Operate operation m t → result_source op m.stack.b m.stack.a ≡ t.stack.a.source
 unfolding rule rule_of instruction_rule operation_rule local_operation_rule instruction_of
 operation_from g operation op m t named x =
@@ -128,7 +129,7 @@ operation_from g operation op m t named x =
 
 -- ---- chains of conditions
 
-logic_names : (op : Logic) → (operation : Binary) × Names (chain_operation (chain.Logic op)) operation
+logic_names : (op : Logic) → (operation : Binary) × IsBinary (chain_operation (chain.Logic op)) operation
     × ((l r : Known) → result_source operation l r ≡ Nowhere)
 logic_names logic.And = (binary.And, operands_name.and, λ l r. refl)
 logic_names logic.Or = (binary.Or, operands_name.or, λ l r. refl)

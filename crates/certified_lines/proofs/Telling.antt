@@ -15,8 +15,9 @@ use Rattle.states.specs.declared.known.WordFact.TheVariants.{Alone, Index, Count
 use Rattle.states.specs.State.{Facts, forgets, without_source}
 use Rattle.local_rules.specs.WordRules.{number_in, known_constant, word_as_known}
 use Rattle.occam_parser.specs.declared.tree.ValueType.{ValueType}
+use Rattle.scalar_ranges.specs.declared.scope.ArrayKind.{ArrayKind}
 use Rattle.scalar_ranges.specs.declared.scope.ScalarKind.{ScalarKind}
-use Rattle.scalar_ranges.specs.Entries.{Meaning, Constant, Scalar, Array, Channel, Channels, Procedure, Entry}
+use Rattle.scalar_ranges.specs.Entries.{Meaning, Constant, Scalar, Array, Entry}
 use Rattle.scalar_ranges.specs.Entries.{meaning_in, number_in as number_of_name}
 use Rattle.code_pieces.specs.Pieces.{Piece, loads, constant, counted}
 use Rattle.line_pieces.specs.Homes as home
@@ -25,7 +26,7 @@ use Rattle.line_pieces.specs.Expressions.{scalar_code}
 use Rattle.certified_lines.specs.StraightRules.{Setting, Told, FallOn, with_pushed}
 use Rattle.certified_lines.specs.Instructions.{IsCounted, MayRead}
 use Rattle.certified_lines.specs.Scopes.{Scene, EachNameHas, IsNumber, loop_of, AreKnownThere, HasTurns}
-use Rattle.certified_lines.specs.Scopes.{IsHousedThere}
+use Rattle.certified_lines.specs.Scopes.{IsHousedThere, IsScalarKnown}
 use Rattle.certified_lines.specs.Telling.{IsWhole, StayBefore, IsLike, PushedFact}
 use Rattle.certified_lines.specs.TellingLaws.{ScopesStay, ConstantsTell, ScalarsTell}
 use Rattle.certified_lines.proofs.Instructions.{constants_are_known, loaded_words_are_known}
@@ -77,6 +78,25 @@ stay_both t f g h first second k less whole =
 
 -- ---- scopes
 
+-- What is known of a name stays known, if that of its words does where this holds of the name.
+module _ (g : Scene) (old new : Facts) (P : Option Home → Meaning → Type 0)
+    (scalar : (w : ℕ) (kind : ScalarKind) (type : ValueType) (range : Ends)
+    → P (Some (Word w)) (Scalar kind type range) → IsNumber old w range → IsNumber new w range)
+    (index : (w head : ℕ) (kind : ScalarKind) (type : ValueType) (range : Ends)
+    → P (Some (Block w head)) (Scalar kind type range) → IsScalarKnown g old (Block w head) range
+    → IsScalarKnown g new (Block w head) range)
+    (array : (w n size : ℕ) (kind : ArrayKind) (type : ValueType) (range : Ends)
+    → P (Some (Word w)) (Array kind type (Some size) range) → n < words_for type size → IsNumber old (w + n) full
+    → IsNumber new (w + n) full) where
+  pub name_stays : (h : Option Home) (k : Meaning) → P h k → AreKnownThere g old h k → AreKnownThere g new h k
+  name_stays None k p is = absurd is
+  name_stays (Some h) (Constant type value) p is = is
+  name_stays (Some (Word w)) (Scalar kind type range) p is = scalar w kind type range p is
+  name_stays (Some (Block w head)) (Scalar kind type range) p is = index w head kind type range p is
+  name_stays (Some (Word w)) (Array kind type (Some size) range) p is =
+      λ n less. array w n size kind type range p less (is n less)
+  name_stays (Some h) k p is = is
+
 module _ (g : Scene) (top t : ℕ) (old new : Facts) (few : top ≤ t) (stay : StayBefore t old new) where
   number_stays : (w : ℕ) (r : Ends) → w < top → IsNumber old w r → IsNumber new w r
   number_stays w r less is =
@@ -84,29 +104,15 @@ module _ (g : Scene) (top t : ℕ) (old new : Facts) (few : top ≤ t) (stay : S
 
   known_stays : (h : Option Home) (k : Meaning) → IsHousedThere g top h k → AreKnownThere g old h k
       → AreKnownThere g new h k
-  known_stays None k housed is = absurd housed
-  known_stays (Some h) (Constant type value) housed is = is
-  known_stays (Some h) (Channel type) housed is = is
-  known_stays (Some h) (Channels type size) housed is = is
-  known_stays (Some h) (Procedure number) housed is = is
-  known_stays (Some Nowhere) (Scalar kind type range) housed is = is
-  known_stays (Some (Word w)) (Scalar kind type range) housed is = number_stays w range housed.1 is
-  known_stays (Some (Block w head)) (Scalar kind type range) housed is =
+  known_stays =
+      name_stays g old new (IsHousedThere g top) (λ w kind type range housed is. number_stays w range housed.1 is)
+      (λ w head kind type range housed is.
       let less = housed.1 in (
         stay w (omega (arith, less, few)) (subst (IsWhole t w) (sym is.0) (omega (arith, less, few))) ∙ is.0,
         stay (w + 1) (omega (arith, less, few)) (subst (IsWhole t (w + 1)) (sym is.1) tt) ∙ is.1,
-      )
-  known_stays (Some (Link n)) (Scalar kind type range) housed is = is
-  known_stays (Some (home.Table values)) (Scalar kind type range) housed is = is
-  known_stays (Some (Passed w)) (Scalar kind type range) housed is = is
-  known_stays (Some Nowhere) (Array kind type size range) housed is = is
-  known_stays (Some (Word w)) (Array kind type None range) housed is = is
-  known_stays (Some (Word w)) (Array kind type (Some size) range) housed is =
-      let ends = housed.1 in λ n less. number_stays (w + n) full (omega (arith, less, ends)) (is n less)
-  known_stays (Some (Block w head)) (Array kind type size range) housed is = is
-  known_stays (Some (Link n)) (Array kind type size range) housed is = is
-  known_stays (Some (home.Table values)) (Array kind type size range) housed is = is
-  known_stays (Some (Passed w)) (Array kind type size range) housed is = is
+      ))
+      (λ w n size kind type range housed less is.
+      let ends = housed.1 in number_stays (w + n) full (omega (arith, less, ends)) is)
 
 pub scopes_stay : ScopesStay
 scopes_stay g top t es old new scope few stay holds =

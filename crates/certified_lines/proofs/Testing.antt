@@ -32,20 +32,21 @@ use Rattle.code_pieces.specs.declared.operations.TheConstants.{GREATER, REVERSE}
 use Rattle.code_pieces.specs.Pieces.{Piece, Direct, operates, loads, constant}
 use Rattle.line_pieces.specs.Expressions.{Operand, both, comes_last, pushed, pushes_of, pair_code, negates}
 use Rattle.line_pieces.specs.Expressions.{next_above, next_below, on_constant, below_constant, negated_unless}
+use Rattle.placed_code.proofs.OperandsName.{operands_name}
 use Rattle.certified_lines.specs.StraightRules.{Setting, Told, FallOn, with_pushed}
-use Rattle.certified_lines.specs.Instructions.{IsCounted, MayRead, with_a, with_result}
+use Rattle.certified_lines.specs.Instructions.{IsCounted, MayRead, with_result}
 use Rattle.certified_lines.specs.Numbers.{IsNumberIn}
 use Rattle.certified_lines.specs.Scopes.{IsNumber}
 use Rattle.certified_lines.specs.TestLaws.{OneWordIs}
 use Rattle.certified_lines.proofs.StraightRules.{fall_both}
 use Rattle.certified_lines.proofs.Instructions.{constants_are_known, loaded_words_are_known, registers_are_reversed}
-use Rattle.certified_lines.proofs.Numbers.{results_lie_in_ranges, comparisons_are_truths, greater_words_are_told}
+use Rattle.certified_lines.proofs.Numbers.{results_lie_in_ranges, greater_words_are_told}
 use Rattle.certified_lines.proofs.Numbers.{range_told}
 use Rattle.certified_lines.proofs.Numbers.{lesser_words_are_told, equal_words_are_told, opposites_are_told}
 use Rattle.certified_lines.proofs.Numbers.{nothing_is_told_from_nowhere}
-use Rattle.certified_lines.proofs.Named.{operands_name}
 use Rattle.certified_lines.proofs.Ranges.{constant_ranged, checked_by}
 use Rattle.certified_lines.proofs.Comparing.{greater_range, truths_ranged, zero_fits, above_fits, below_fits}
+use Rattle.certified_lines.proofs.Comparing.{compared_told, compared_falls}
 use Rattle.certified_lines.proofs.Operands.{same_word}
 
 -- ---- tests of a word
@@ -95,19 +96,22 @@ above_next v d fits next =
     ∙ (words_in_order_are_ranges v greatest_word (at_least v)).1
     (record { lo_fits = fits; hi_fits = omega (arith, ints); ordered = omega (arith, ints, fits) }, refl, refl)
 
+-- words that are these leave what these leave
+by_words : (c : Comparison) (v : ℤ) (r q : Ends) (o : Option Ends) → IsTestOf c v r (true, Some q) → o ≡ Some q
+    → IsTestOf c v r (true, o)
+by_words c v r q o test same = subst (λ (p : Option Ends). IsTestOf c v r (true, p)) (sym same) test
+
 by_below_next : (v d : ℤ) (r : Ends) → FitsSigned w32 v → next_above (Some v) ≡ Some d
     → IsTestOf comparison.LessOrEqual v r (true, words_below d)
-by_below_next v d r fits next true =
-    ap (λ (o : Option Ends). left_by_test (true, o) r) (sym (below_next v d fits next))
-by_below_next v d r fits next false =
-    ap (λ (o : Option Ends). left_by_test (false, o) r) (sym (below_next v d fits next))
+by_below_next v d r fits next =
+    by_words comparison.LessOrEqual v r (at_most v) (words_below d) (elim [ true ↦ refl | false ↦ refl ])
+    (below_next v d fits next)
 
 by_above_next : (v d : ℤ) (r : Ends) → FitsSigned w32 v → next_below (Some v) ≡ Some d
     → IsTestOf comparison.GreaterOrEqual v r (true, words_above d)
-by_above_next v d r fits next true =
-    ap (λ (o : Option Ends). left_by_test (true, o) r) (sym (above_next v d fits next))
-by_above_next v d r fits next false =
-    ap (λ (o : Option Ends). left_by_test (false, o) r) (sym (above_next v d fits next))
+by_above_next v d r fits next =
+    by_words comparison.GreaterOrEqual v r (at_least v) (words_above d) (elim [ true ↦ refl | false ↦ refl ])
+    (above_next v d fits next)
 
 -- ---- words that are narrowed
 
@@ -195,9 +199,8 @@ negated_shown g ps w o s shown =
     let k = shown.after in
     subst (λ (rs : List Piece). Shown g rs w (false, o) s) (append_assoc ps (operates GREATER ∷ []) (negates ∷ []))
     (record {
-      after = with_a (record { fact = number_in truths; source = equal_source k.stack.a (pos 0) }) k;
-      falls = fall_both shown.falls (comparisons_are_truths g (pos 0) truths k
-          (record { is = shown.fact; range = truths_ranged }) zero_fits);
+      after = compared_told (pos 0) k;
+      falls = fall_both shown.falls (compared_falls g (pos 0) truths k shown.fact truths_ranged zero_fits);
       fact = refl;
       source = opposite_source k.stack.a w o shown.source;
       frame = shown.frame;
@@ -310,9 +313,9 @@ module _ (g : Setting) (w : ℕ) (r : Ends) (counts : IsCounted w) (may : MayRea
   equal_shown v fits =
       let k : Told = with_pushed (word_as_known (pos w) (s.frame (pos w))) s in
       record {
-        after = with_a (record { fact = number_in truths; source = equal_source k.stack.a v }) k;
-        falls = fall_both (loaded_words_are_known g w s counts may) (comparisons_are_truths g v r k
-            (record { is = ap (λ (a : Known). a.fact) word_pushed; range = ranged }) fits);
+        after = compared_told v k;
+        falls = fall_both (loaded_words_are_known g w s counts may)
+            (compared_falls g v r k (ap (λ (a : Known). a.fact) word_pushed) ranged fits);
         fact = refl;
         source = equal_words_are_told k.stack.a (pos w) v (ap (λ (a : Known). a.source) word_pushed);
         frame = refl;
@@ -325,9 +328,8 @@ module _ (g : Setting) (w : ℕ) (r : Ends) (counts : IsCounted w) (may : MayRea
       let shown = equal_shown v fits in
       let k = shown.after in
       record {
-        after = with_a (record { fact = number_in truths; source = equal_source k.stack.a (pos 0) }) k;
-        falls = fall_both shown.falls (comparisons_are_truths g (pos 0) truths k
-            (record { is = shown.fact; range = truths_ranged }) zero_fits);
+        after = compared_told (pos 0) k;
+        falls = fall_both shown.falls (compared_falls g (pos 0) truths k shown.fact truths_ranged zero_fits);
         fact = refl;
         source = opposite_source k.stack.a w (Some (ranges.constant v)) shown.source;
         frame = refl;

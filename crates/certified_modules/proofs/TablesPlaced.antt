@@ -18,8 +18,8 @@ use Rattle.module_builder.specs.Spelling.{constants_start}
 use Rattle.machine_state.specs.LocalStep.{address}
 use Rattle.machine_state.specs.World.{padding}
 use Rattle.local_rules.specs.MemoryRules.{place_fact}
-use Rattle.code_pieces.specs.Pieces.{Piece, Direct, Jump, JumpUnless, LoopBack, Distance, StartBranch, Select}
-use Rattle.code_pieces.specs.Pieces.{TableAddress, Row, Place, Within, Par}
+use Rattle.code_pieces.specs.Pieces.{Piece}
+use Rattle.code_pieces.specs.Pieces.{TableAddress}
 use Rattle.code_pieces.specs.Laying.{are_same, offset_in, with_table, tables_before, draft_code}
 use Rattle.code_pieces.specs.LaidModule.{Says, laid_module}
 use Rattle.code_pieces.specs.Tables.{constants_of, table_bytes}
@@ -113,39 +113,31 @@ fits_with other values (t ∷ ts) fits =
     fits_by (are_same t other) (t ∷ ts) (t ∷ with_table other ts) values (λ is. fits)
     (λ is. fits_cons t ts (with_table other ts) values (λ rest. fits_with other values ts rest) fits)
 
-fits_behind : (values : List ℤ) (ts : List (List ℤ)) (ps : List Piece) → FitsIn ts values
-    → FitsIn (tables_before ts ps) values
-fits_behind values ts [] fits = fits
-fits_behind values ts (TableAddress other ∷ ps) fits =
-    fits_behind values (with_table other ts) ps (fits_with other values ts fits)
-fits_behind values ts (Direct f e ∷ ps) fits = fits_behind values ts ps fits
-fits_behind values ts (Jump l ∷ ps) fits = fits_behind values ts ps fits
-fits_behind values ts (JumpUnless l ∷ ps) fits = fits_behind values ts ps fits
-fits_behind values ts (LoopBack head behind ∷ ps) fits = fits_behind values ts ps fits
-fits_behind values ts (Distance from to ∷ ps) fits = fits_behind values ts ps fits
-fits_behind values ts (StartBranch entry successor ∷ ps) fits = fits_behind values ts ps fits
-fits_behind values ts (Select targets ∷ ps) fits = fits_behind values ts ps fits
-fits_behind values ts (Row l entries ∷ ps) fits = fits_behind values ts ps fits
-fits_behind values ts (Place l ∷ ps) fits = fits_behind values ts ps fits
-fits_behind values ts (Within workspace ∷ ps) fits = fits_behind values ts ps fits
-fits_behind values ts (Par par ∷ ps) fits = fits_behind values ts ps fits
+-- What stays so of tables while others are added stays so while pieces are read.
+tables_keep : (holds : List (List ℤ) → Type 0)
+    → ((other : List ℤ) (ts : List (List ℤ)) → holds ts → holds (with_table other ts))
+    → (ts : List (List ℤ)) (ps : List Piece) → holds ts → holds (tables_before ts ps)
+tables_keep holds more ts [] now = now
+tables_keep holds more ts (TableAddress other ∷ ps) now =
+    tables_keep holds more (with_table other ts) ps (more other ts now)
+tables_keep holds more ts (p ∷ ps) now = tables_keep holds more ts ps now
+
+-- So what holds where a table is added holds where a piece reads it.
+pub read_keeps : (holds : List (List ℤ) → Type 0)
+    → ((other : List ℤ) (ts : List (List ℤ)) → holds ts → holds (with_table other ts)) → (values : List ℤ)
+    → ((ts : List (List ℤ)) → holds (with_table values ts)) → (ts : List (List ℤ)) (before rest : List Piece)
+    → holds (tables_before ts (before ++ TableAddress values ∷ rest))
+read_keeps holds more values added ts [] rest = tables_keep holds more (with_table values ts) rest (added ts)
+read_keeps holds more values added ts (TableAddress other ∷ before) rest =
+    read_keeps holds more values added (with_table other ts) before rest
+read_keeps holds more values added ts (p ∷ before) rest = read_keeps holds more values added ts before rest
 
 -- a table that a piece reads lies in the constants
 read_fits : (ts : List (List ℤ)) (before rest : List Piece) (values : List ℤ)
     → FitsIn (tables_before ts (before ++ TableAddress values ∷ rest)) values
-read_fits ts [] rest values = fits_behind values (with_table values ts) rest (fits_added values ts)
-read_fits ts (TableAddress other ∷ before) rest values = read_fits (with_table other ts) before rest values
-read_fits ts (Direct f e ∷ before) rest values = read_fits ts before rest values
-read_fits ts (Jump l ∷ before) rest values = read_fits ts before rest values
-read_fits ts (JumpUnless l ∷ before) rest values = read_fits ts before rest values
-read_fits ts (LoopBack head behind ∷ before) rest values = read_fits ts before rest values
-read_fits ts (Distance from to ∷ before) rest values = read_fits ts before rest values
-read_fits ts (StartBranch entry successor ∷ before) rest values = read_fits ts before rest values
-read_fits ts (Select targets ∷ before) rest values = read_fits ts before rest values
-read_fits ts (Row l entries ∷ before) rest values = read_fits ts before rest values
-read_fits ts (Place l ∷ before) rest values = read_fits ts before rest values
-read_fits ts (Within workspace ∷ before) rest values = read_fits ts before rest values
-read_fits ts (Par par ∷ before) rest values = read_fits ts before rest values
+read_fits ts before rest values =
+    read_keeps (λ us. FitsIn us values) (λ other us. fits_with other values us) values (fits_added values) ts before
+    rest
 
 -- each table begins at a word
 four_by : (b : Bool) (n k j : ℕ) → n ≡ 4 * k → (quarter : ℕ) × (cond b 0 (4 * j + n) ≡ 4 * quarter)

@@ -3,7 +3,6 @@ use Rattle.std.proofs.Common.{◌≡◌, ℕ, ◌+◌, ◌≤◌, Bool, true, fa
 use Rattle.std.proofs.Common.{None}
 use Rattle.std.proofs.Common.{inl, refl, sym, ap, subst, ◌∙◌, arith, unwrap_or}
 use Rattle.std.specs.Prelude.{IfSome}
-use Rattle.word_arithmetic.specs.Range.{Ends, IsRange}
 use Rattle.scalar_ranges.specs.Entries.{Entry}
 use Rattle.scalar_ranges.specs.MoveLaws.{shape}
 use Rattle.scalar_ranges.specs.Moves.{Known, ends_with, hulls}
@@ -13,7 +12,6 @@ use Rattle.scalar_ranges.proofs.Nesting.{long_alike}
 use Rattle.usage_checks.specs.AfterProcesses.{chosen}
 use Rattle.usage_checks.specs.TypedRanges.{AreInTypes}
 use Rattle.usage_checks.proofs.TypedMoves.{typed_hulls}
-use Rattle.local_rules.specs.WordRules.{number_in}
 use Rattle.code_pieces.specs.declared.operations.TheConstants.{STOP_PROCESS}
 use Rattle.code_pieces.specs.declared.piece.RowEntry.{RowEntry}
 use Rattle.code_pieces.specs.Pieces.{Code, Jump, JumpUnless, Piece, closed_by, operates}
@@ -28,7 +26,7 @@ use Rattle.code_generator.specs.Processes.{ending_code}
 use Rattle.code_generator.specs.Processes.{if_code, is_true, opening, row_of, taken_code, tested_code, with_ending}
 use Rattle.certified_lines.specs.Jumps.{fallen, jumped}
 use Rattle.certified_lines.specs.Scopes.{HoldsScope}
-use Rattle.certified_lines.specs.StraightRules.{FallOn, Told}
+use Rattle.certified_lines.specs.StraightRules.{Told}
 use Rattle.certified_modules.specs.Passing.{IsOpen, OpenLabel, PassOn, both, closes, none, open_label, stops, told_by}
 use Rattle.certified_modules.specs.RowsSay.{Implies}
 use Rattle.certified_modules.proofs.Shapes.{choices_pass, tests_pass}
@@ -42,6 +40,7 @@ use Rattle.meant_processes.proofs.CodeParts.{before_is, closed_is, then_is, writ
 use Rattle.certified_processes.specs.Places.{Coded, bare_scene, scene, scene_at}
 use Rattle.certified_processes.proofs.There.{IsSound, IsThere}
 use Rattle.certified_processes.specs.ProcessesPass.{PassesTo}
+use Rattle.certified_processes.proofs.Conditions.{Shows}
 use Rattle.certified_processes.proofs.LabelsRise.{Rises, rises_before, rises_closed, rises_low, rises_then}
 use Rattle.certified_processes.proofs.Lines.{row_entries, row_tells}
 use Rattle.certified_processes.proofs.Ordered.{hulls_ordered, scope_ordered}
@@ -93,13 +92,9 @@ module _ (p : Coded) (s : Site) (placed : IsThere p s) (f : Frame)
   -- The code of a condition leads to where it can be tested: it holds where the process begins, and where it does not,
   -- this scope is held.
   pub record Tests (x : PlacedChoice) (next : List Entry) (before : Told) : Type 0 where
-    pub after : Told
-    pub falls : FallOn p.passage.setting (shown_code x) before after
-    pub range : Ends
-    pub fact : after.stack.a.fact ≡ number_in range
-    pub ranged : IsRange range
-    pub so : Enters x (fallen after)
-    pub not_so : Holds next (jumped after)
+    pub shows : Shows (scene_at p f.homes) x.known.entries x.condition (shown_code x) before
+    pub so : Enters x (fallen shows.after)
+    pub not_so : Holds next (jumped shows.after)
 
   -- A choice from where one scope is held: where it is not taken the next one is, and where its process ends a third.
   pub record ChoiceGoes (x : PlacedChoice) (mid next ending : List Entry) : Type 0 where
@@ -202,20 +197,17 @@ module _ (p : Coded) (s : Site) (placed : IsThere p s) (f : Frame)
       subst EndsAlike (sym joined)
       (with_alike earlier ending (ends_alike start cs mid earlier go) goes.alike goes.indices)
 
-  -- the end of a choice lies within all ends, and so do those before
-  this_lies : (o : Option (List Entry)) (es after : List Entry) → EndsAlike o → shape es ≡ shape s.known.entries
-      → indices_of es ≡ indices_of s.known.entries → LieWithin (ends_with o es) after → LieWithin es after
-  this_lies None es after ends alike same lies = lies
-  this_lies (Some ds) es after ends alike same lies =
-      scopes_lie_within.further es (hulls ds es) after
-      (scopes_lie_within.this_one ds es (ends.0 ∙ sym alike) (ends.1 ∙ sym same)) lies
-
-  earlier_lie : (o : Option (List Entry)) (es after : List Entry) → EndsAlike o → shape es ≡ shape s.known.entries
-      → indices_of es ≡ indices_of s.known.entries → LieWithin (ends_with o es) after → EndsLie o after
-  earlier_lie None es after ends alike same lies = tt
-  earlier_lie (Some ds) es after ends alike same lies =
-      scopes_lie_within.further ds (hulls ds es) after
-      (scopes_lie_within.earlier ds es (ends.0 ∙ sym alike) (ends.1 ∙ sym same)) lies
+  -- the ends before a choice lie within all ends, and so does its own
+  ends_lie : (o : Option (List Entry)) (es after : List Entry) → EndsAlike o → shape es ≡ shape s.known.entries
+      → indices_of es ≡ indices_of s.known.entries → LieWithin (ends_with o es) after
+      → EndsLie o after × LieWithin es after
+  ends_lie None es after ends alike same lies = (tt, lies)
+  ends_lie (Some ds) es after ends alike same lies =
+      let named = ends.0 ∙ sym alike in
+      let numbered = ends.1 ∙ sym same in (
+        scopes_lie_within.further ds (hulls ds es) after (scopes_lie_within.earlier ds es named numbered) lies,
+        scopes_lie_within.further es (hulls ds es) after (scopes_lie_within.this_one ds es named numbered) lies,
+      )
 
   all_lie : (o : Option (List Entry)) (last after : List Entry) → after ≡ unwrap_or o last → EndsLie o after
   all_lie None last after same = tt
@@ -254,12 +246,12 @@ module _ (p : Coded) (s : Site) (placed : IsThere p s) (f : Frame)
   -- what leads to where it does not hold
   test_passes : (x : PlacedChoice) (next : List Entry) (opened : List OpenLabel) (label : ℕ) (entries : List RowEntry)
       (before : Told) → (t : Tests x next before) → IsOpen opened label entries
-      → Implies p.passage.weights (jumped t.after).frame entries
+      → Implies p.passage.weights (jumped t.shows.after).frame entries
       → PassOn p.passage opened (Some before) (test_code f.homes x.known.entries f.top x.condition label)
-      (Some (fallen t.after))
+      (Some (fallen t.shows.after))
   test_passes x next opened label entries before t leads implies =
-      tests_pass p.passage opened before t.after (shown_code x) label t.range entries t.falls t.fact t.ranged leads
-      implies
+      tests_pass p.passage opened before t.shows.after (shown_code x) label t.shows.range entries t.shows.falls
+      t.shows.fact t.shows.ranged leads implies
 
   -- a test is its value, what makes the machine forget, and a jump
   value_fits : (x : PlacedChoice) (label : ℕ) (rest : List Piece)
@@ -290,18 +282,18 @@ module _ (p : Coded) (s : Site) (placed : IsThere p s) (f : Frame)
       ap (facts_in f) goes.next_is ∙ rows next (long_of next goes.sound) in
       let t = goes.tests (value_fits x label (d.first.pieces ++ last) fits) before holds in
       let tested = test_passes x next (open_label label row ∷ opened) label row before t (inl refl)
-      (subst (Implies p.passage.weights (jumped t.after).frame) (sym row_is)
-      (implied next next (jumped t.after) goes.sound.settled (scopes_lie_within.itself next) t.not_so)) in
+      (subst (Implies p.passage.weights (jumped t.shows.after).frame) (sym row_is)
+      (implied next next (jumped t.shows.after) goes.sound.settled (scopes_lie_within.itself next) t.not_so)) in
       let taken = goes.takes (label + 1) d.first (omega (arith, low)) d.is
       (all_first (FitsIn p.program) d.first.pieces last
       (all_last (FitsIn p.program) test (d.first.pieces ++ last) fits))
-      opened (fallen t.after) t.so in
+      opened (fallen t.shows.after) t.so in
       record {
         after = told_by p.passage row;
         passes = subst (λ (ps : List Piece). PassOn p.passage opened (Some before) ps (Some (told_by p.passage row)))
             (sym whole)
             (choices_pass p.passage opened end label (facts_in s.frame after) row test d.first.pieces before
-            (fallen t.after) taken.after leads tested taken.passes
+            (fallen t.shows.after) taken.after leads tested taken.passes
             (implied_at ending after taken.after settled lies taken.holds));
         holds = subst (λ (es : List Entry). Holds next (told_by p.passage (facts_in f es))) (sym goes.next_is)
             (told_there next goes.sound);
@@ -341,10 +333,10 @@ module _ (p : Coded) (s : Site) (placed : IsThere p s) (f : Frame)
       let t = then_is (all_tested end f cs label) (tested_code end f x) c is in
       let fits = subst (AllFit p.program) t.pieces fit in
       let one = tested_pass start cs mid after earlier end label opened before t.first go settled
-      (earlier_lie earlier ending after known goes.alike goes.indices lies) low t.first_is
+      (ends_lie earlier ending after known goes.alike goes.indices lies).0 low t.first_is
       (all_first (FitsIn p.program) t.first.pieces t.last.pieces fits) leads holds in
       let two = choice_tested x mid last ending after end t.first.labels opened one.after t.last goes settled
-      (this_lies earlier ending after known goes.alike goes.indices lies)
+      (ends_lie earlier ending after known goes.alike goes.indices lies).1
       (rises_of s.label label (all_tested end f cs label) t.first t.first_is low
       (tested_rise start cs mid earlier end label go)) t.last_is
       (all_last (FitsIn p.program) t.first.pieces t.last.pieces fits) leads one.holds in
@@ -458,13 +450,13 @@ module _ (p : Coded) (s : Site) (placed : IsThere p s) (f : Frame)
       let lies = subst (λ (o : Option (List Entry)). EndsLie o after) joined (all_lie ends last after same) in
       let known = ends_alike start cs mid earlier go in
       let one = tested_pass start cs mid after earlier end label opened before c go settled
-      (earlier_lie earlier ending after known goes.alike goes.indices lies) low is fit leads holds in
+      (ends_lie earlier ending after known goes.alike goes.indices lies).0 low is fit leads holds in
       let two = goes.takes c.labels d further ending_is own opened one.after (goes.always always one.after one.holds) in
       record {
         told = Some two.after;
         passes = both {t = Some one.after} {u = Some two.after} one.passes two.passes;
         implies = implied_at ending after two.after settled
-            (this_lies earlier ending after known goes.alike goes.indices lies) two.holds;
+            (ends_lie earlier ending after known goes.alike goes.indices lies).1 two.holds;
       }
   ending_passes start cs (Opens x) after end label opened before c d
       (last, ends, (mid, earlier, ending, go, goes, joined), same) settled low further is fit ending_is own leads
@@ -483,19 +475,19 @@ module _ (p : Coded) (s : Site) (placed : IsThere p s) (f : Frame)
       let b = before_is test (taken_code f x c.labels) d ending_is in
       let parts = subst (AllFit p.program) b.pieces own in
       let one = tested_pass start cs mid after earlier end label opened before c go settled
-      (earlier_lie earlier ending after known goes.alike goes.indices lies) low is fit leads holds in
+      (ends_lie earlier ending after known goes.alike goes.indices lies).0 low is fit leads holds in
       let t = goes.tests (value_fits x end b.rest.pieces parts) one.after one.holds in
       let tested = test_passes x last opened end (facts_in s.frame after) one.after t leads
-      (implied_at last after (jumped t.after) settled last_lies t.not_so) in
+      (implied_at last after (jumped t.shows.after) settled last_lies t.not_so) in
       let two = goes.takes c.labels b.rest further b.is (all_last (FitsIn p.program) test b.rest.pieces parts) opened
-      (fallen t.after) t.so in
+      (fallen t.shows.after) t.so in
       record {
         told = Some two.after;
         passes = both {t = Some one.after} {u = Some two.after} one.passes
             (subst (λ (ps : List Piece). PassOn p.passage opened (Some one.after) ps (Some two.after)) (sym b.pieces)
-            (both {t = Some (fallen t.after)} {u = Some two.after} tested two.passes));
+            (both {t = Some (fallen t.shows.after)} {u = Some two.after} tested two.passes));
         implies = implied_at ending after two.after settled
-            (this_lies earlier ending after known goes.alike goes.indices lies) two.holds;
+            (ends_lie earlier ending after known goes.alike goes.indices lies).1 two.holds;
       }
 
   -- the label behind the tests

@@ -113,24 +113,28 @@ word_there g top (Some h) kind type range housed index can = absurd housed
 truths_ranged : IsRange truths
 truths_ranged = record { lo_fits = omega (arith, ints); hi_fits = omega (arith, ints); ordered = omega (arith, ints) }
 
-no_truth : (op : _) (r s : Result ExprType ℕ) → both r s (pair_type (pair.Arithmetic op)) ≡ Ok types.Condition → ⊥
-no_truth op (Ok types.Int) (Ok types.Int) is = absurd (cc is)
-no_truth op (Ok x) (Ok y) is = absurd (cc is)
-no_truth op (Ok x) (Err n) is = absurd (cc is)
-no_truth op (Err m) (Ok y) is = absurd (cc is)
-no_truth op (Err m) (Err n) is = absurd (cc is)
+-- what is no truth of any two types is none of two that are found
+no_truth : (of : ExprType → ExprType → Result ExprType ℕ)
+    → ((x y : ExprType) → of x y ≡ Ok types.Condition → ⊥) → (r s : Result ExprType ℕ)
+    → both r s of ≡ Ok types.Condition → ⊥
+no_truth of none (Ok x) (Ok y) is = none x y is
+no_truth of none (Err m) (Ok y) is = absurd (cc is)
+no_truth of none r s is = absurd (cc is)
 
-no_truth_of : (op : _) (r s : Result ExprType ℕ) → both r s (chain_type (chain.Arithmetic op)) ≡ Ok types.Condition → ⊥
-no_truth_of op (Ok types.Int) (Ok types.Int) is = absurd (cc is)
-no_truth_of op (Ok x) (Ok y) is = absurd (cc is)
-no_truth_of op (Ok x) (Err n) is = absurd (cc is)
-no_truth_of op (Err m) (Ok y) is = absurd (cc is)
-no_truth_of op (Err m) (Err n) is = absurd (cc is)
+no_pair : (op : _) (x y : ExprType) → pair_type (pair.Arithmetic op) x y ≡ Ok types.Condition → ⊥
+no_pair op types.Int types.Int is = absurd (cc is)
+no_pair op x y is = absurd (cc is)
+
+no_chain : (op : _) (x y : ExprType) → chain_type (chain.Arithmetic op) x y ≡ Ok types.Condition → ⊥
+no_chain op types.Int types.Int is = absurd (cc is)
+no_chain op x y is = absurd (cc is)
 
 no_truths : (es : List Entry) (op : _) (ts : Terms) → type_of_terms es (chain.Arithmetic op) ts ≡ Ok types.Condition → ⊥
-no_truths es op (Two a b) is = no_truth_of op (type_of_term es a) (type_of_term es b) is
+no_truths es op (Two a b) is =
+    no_truth (chain_type (chain.Arithmetic op)) (no_chain op) (type_of_term es a) (type_of_term es b) is
 no_truths es op (Then ts t) is =
-    no_truth_of op (type_of_terms es (chain.Arithmetic op) ts) (type_of_term es t) is
+    no_truth (chain_type (chain.Arithmetic op)) (no_chain op) (type_of_terms es (chain.Arithmetic op) ts)
+    (type_of_term es t) is
 
 forgets_test : (shows : Bool) (t : Tested) → forgets shows (Some t) ≡ []
 forgets_test true t = refl
@@ -148,16 +152,22 @@ module _ (g : Scene) (top t : ℕ) (low : top ≤ t) (free : IsFree t)
       (stay_both t before.frame after.frame (where_it it after) stay
       (quiet_truths_narrow_nothing t after it quiet)) held)
 
+  quiet_shows : (e : Expression) (r : Ends) (ps : List Piece) (after : Told) → IsRange r → test_of es e ≡ None
+      → FallOn g.setting ps before after → after.stack.a.fact ≡ number_in r → IsQuiet t after.stack.a.source
+      → StayBefore t before.frame after.frame → Shows g es e ps before
+  quiet_shows e r ps after ranged none falls fact quiet stay = record {
+    after = after;
+    falls = falls;
+    range = r;
+    fact = fact;
+    ranged = ranged;
+    holds = quiet_holds e after none quiet stay;
+  }
+
   nothing_told : (e : Expression) (r : Ends) (ps : List Piece) → IsRange r → test_of es e ≡ None
       → TellsNothing g.setting ps t r before → Shows g es e ps before
-  nothing_told e r ps ranged none n = record {
-    after = n.after;
-    falls = n.falls;
-    range = r;
-    fact = n.fact;
-    ranged = ranged;
-    holds = quiet_holds e n.after none (quiet_of t n.after.stack.a.source n.source) n.stay;
-  }
+  nothing_told e r ps ranged none n =
+      quiet_shows e r ps n.after ranged none n.falls n.fact (quiet_of t n.after.stack.a.source n.source) n.stay
 
   -- a condition that is no test, and shows nothing
   silent_shows : (e : Expression) (b : Bound) → has_words e ≡ true → type_of es e ≡ Ok types.Condition
@@ -166,16 +176,11 @@ module _ (g : Scene) (top t : ℕ) (low : top ≤ t) (free : IsFree t)
   silent_shows (Paired (pair.Comparison c) x y) b words typed bounded silent none all =
       let s = comparisons_show_nothing g top t es c x y types.Condition b before scope low
       free words typed bounded silent all held in
-      record {
-        after = s.after;
-        falls = s.falls;
-        range = truths;
-        fact = s.fact;
-        ranged = truths_ranged;
-        holds = quiet_holds (Paired (pair.Comparison c) x y) s.after none s.source s.stay;
-      }
+      quiet_shows (Paired (pair.Comparison c) x y) truths
+      (expression_code g.homes es t (Paired (pair.Comparison c) x y)) s.after truths_ranged none s.falls s.fact s.source
+      s.stay
   silent_shows (Paired (pair.Arithmetic op) x y) b words typed bounded silent none all =
-      absurd (no_truth op (type_of_term es x) (type_of_term es y) typed)
+      absurd (no_truth (pair_type (pair.Arithmetic op)) (no_pair op) (type_of_term es x) (type_of_term es y) typed)
   silent_shows (Chained (chain.Logic op) ts) b words typed bounded silent none all =
       let s = chains_tell_nothing g top t es op ts types.Condition b before scope low
       free words typed bounded all held in

@@ -9,10 +9,11 @@ use Rattle.occam_parser.specs.Blocks.{Chosen, Components, Further, Guarded, NoCo
 use Rattle.occam_parser.specs.Words.{components_have_words, has_words, process_has_words}
 use Rattle.scalar_ranges.specs.Entries.{Entry}
 use Rattle.scalar_ranges.specs.MoveLaws.{shape}
-use Rattle.scalar_ranges.specs.Moves.{Known, begin, ends_with, excluded, outermost}
+use Rattle.scalar_ranges.specs.Moves.{Block, Known, begin, ends_with, excluded, outermost}
 use Rattle.scalar_ranges.proofs.MoveLaws.{shapes_stay}
 use Rattle.scalar_ranges.proofs.Excluding.{excluding_holds}
 use Rattle.scalar_ranges.proofs.Nesting.{long_alike}
+use Rattle.program_uses.specs.Actions.{Around}
 use Rattle.program_uses.specs.Changes.{changed_by}
 use Rattle.program_meaning.specs.Sequential.{AreSequential, IsSequential}
 use Rattle.program_meaning.proofs.MovesWithin.{within_shape}
@@ -47,6 +48,26 @@ use Rattle.certified_processes.proofs.Ordered.{excluded_ordered, narrow_ordered}
 use Rattle.certified_processes.proofs.Placing.{placed_alike}
 use Rattle.certified_processes.proofs.Sequences.{EachGoes, ProcessGoes}
 use Rattle.certified_processes.proofs.Skips.{process_stays, true_narrows}
+
+-- What is known where the next choice begins, behind one in a block that began with these names.
+pub choice_after : (a : Around) (line : ℕ) (e : Expression) (q : Process) (es start : List Entry)
+    (ends : Option (List Entry)) (blocks : List Block) → length start ≤ length es
+    → (let k : Known = record { entries = es; blocks = record { start = start; ends = ends } ∷ blocks } in
+    let rest = excluded e es start in
+    after_component a (Mark mark.If) (Chosen line e q) k ≡ record {
+      entries = rest;
+      blocks = record {
+        start = rest;
+        ends = Some (ends_with ends (outermost (length rest) (inside a q (chosen e k)).entries));
+      } ∷ blocks;
+    })
+choice_after a line e q es start ends blocks few =
+    let k : Known = record { entries = es; blocks = record { start = start; ends = ends } ∷ blocks } in
+    let y = chosen e k in
+    let rest_long = long_alike (excluded e es start) start (shapes_stay.excluding es start e) in
+    let y_long = long_alike y.entries es (shapes_stay.narrowing es e true) in
+    chosen_next (changed_by a.signatures y.entries q) e start ends blocks k (inside a q y) refl
+    (ranges_stay.processes a q y (omega (arith, few, rest_long, y_long)))
 
 module _ (p : Coded) (root : IsInRoot p) (s : Site) (placed_there : IsThere p s) where
   -- rows say what the names of the site know
@@ -89,7 +110,7 @@ module _ (p : Coded) (root : IsInRoot p) (s : Site) (placed_there : IsThere p s)
       ap (λ (n : ℕ). outermost n final.entries) (omega (arith, rest_long, y_long)) in
       record {
         next_is = ap (λ (k : Known). k.entries)
-            (chosen_next (changed_by a.signatures y.entries q) e start ends s.known.blocks x final refl stays);
+            (choice_after a line e q start start ends s.known.blocks (omega arith));
         sound = sound_moved p s rest placed_there (shapes_stay.excluding start start e ∙ sound.alike)
             (indices_stay.excluding start start e
             (ap shape (sym (all_outermost (length start) start refl))) ∙ sound.indices)
@@ -103,11 +124,7 @@ module _ (p : Coded) (root : IsInRoot p) (s : Site) (placed_there : IsThere p s)
             b.0 sound.settled.end sound.settled.turn sound.settled.loops literals fit_e.type_is b.1
             (allowed p root s.frame.homes _ fit) in
             record {
-              after = t.after;
-              falls = t.falls;
-              range = t.range;
-              fact = t.fact;
-              ranged = t.ranged;
+              shows = t;
               so = t.holds true;
               not_so = subst (λ (es : List Entry). HoldsScope (scene p s) es (where_it false t.after))
                   (sym (excluding_holds.here start e))
@@ -161,18 +178,13 @@ module _ (p : Coded) (root : IsInRoot p) (s : Site) (placed_there : IsThere p s)
       let reached = subst (Reaches p.program.items (standing p.program) (AComponent c)) h.2.is
       (reach (AComponent c) m (inl (refl, refl))) in
       let go = choice_goes line e q start ends h.2.sound reached each.1 sequential.1 both.0 both.1 in
-      let y = chosen e x in
       let rest = excluded e start start in
-      let final = inside a q y in
-      let rest_long = long_alike rest start (shapes_stay.excluding start start e) in
-      let y_long = long_alike y.entries start (shapes_stay.narrowing start e true) in
-      let stays = ranges_stay.processes a q y (omega (arith, rest_long, y_long)) in
-      let ending = outermost (length rest) final.entries in (
+      let ending = outermost (length rest) (inside a q (chosen e x)).entries in (
         rest,
         Some (ends_with ends ending),
         record {
           is = ap (λ (z : Known). after_component a (Mark mark.If) c z) h.2.is
-              ∙ chosen_next (changed_by a.signatures y.entries q) e start ends s.known.blocks x final refl stays;
+              ∙ choice_after a line e q start start ends s.known.blocks (omega arith);
           sound = go.sound;
         },
         (

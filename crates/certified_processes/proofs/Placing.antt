@@ -3,7 +3,6 @@ use Rattle.std.proofs.Common.{suc}
 use Rattle.std.proofs.Common.{◌≡◌, ℕ, ◌≤◌, List, [], ◌∷◌, ◌++◌, length, Option, Some, None, refl, sym}
 use Rattle.std.proofs.Common.{ap, subst, ◌∙◌, arith, append_assoc, append-nil}
 use Rattle.std.specs.List.{AllByRecursion}
-use Rattle.std.specs.Prelude.{slice_get}
 use Rattle.word_arithmetic.specs.Range.{full}
 use Rattle.occam_parser.specs.Expressions.{Expression}
 use Rattle.occam_parser.specs.Lines as lines
@@ -12,17 +11,12 @@ use Rattle.occam_parser.specs.declared.tree.ValueType.{ValueType}
 use Rattle.occam_parser.specs.OneOrMore.{as_list}
 use Rattle.scalar_ranges.specs.Entries as entries
 use Rattle.scalar_ranges.specs.Entries.{Channel, Entry, Meaning}
-use Rattle.scalar_ranges.specs.MoveLaws.{shape, meaning_at}
+use Rattle.scalar_ranges.specs.MoveLaws.{shape}
 use Rattle.scalar_ranges.specs.Narrowing.{with_range}
 use Rattle.scalar_ranges.specs.Moves.{Known, begun_with}
-use Rattle.scalar_ranges.proofs.MoveLaws.{shape_long}
-use Rattle.scalar_ranges.proofs.Nesting.{long_alike}
 use Rattle.program_uses.specs.Declaring.{add, add_all, add_declaration, channel_meaning}
 use Rattle.usage_checks.specs.Holding.{DeclarationHolds}
 use Rattle.usage_checks.specs.TypedRanges.{AreInTypes}
-use Rattle.usage_checks.proofs.ActionsGoWell.{of_main_alike, of_main_more}
-use Rattle.usage_checks.proofs.ProcessesGoWell.{declared_of_main}
-use Rattle.usage_checks.proofs.RangesStay.{declared_long}
 use Rattle.code_pieces.specs.declared.words.TheConstants.{GREATEST_WORD}
 use Rattle.code_pieces.specs.Pieces.{counted, word_after}
 use Rattle.code_pieces.proofs.AllOfPieces.{all_first, all_last}
@@ -31,17 +25,15 @@ use Rattle.line_pieces.specs.Homes.{Block, Home, Nowhere}
 use Rattle.line_pieces.specs.Declarations.{Frame, channels_in, declaration_code, declared, home_for}
 use Rattle.line_pieces.specs.Declarations.{with_names, with_words, words_in, zero_code, zero_names}
 use Rattle.code_generator.specs.Processes.{Site, at_place, with_declaration}
-use Rattle.meant_lines.proofs.Housing.{get_before, get_last}
+use Rattle.meant_lines.proofs.Housing.{after_counted, get_last, names_further}
 use Rattle.certified_lines.specs.Scopes as scopes
 use Rattle.certified_lines.specs.Scopes.{Scene}
 use Rattle.certified_scopes.specs.Beside.{AreInTurn, first_word, last_end}
 use Rattle.certified_scopes.specs.Settled.{AreOrdered, IsOfIndex, IsSettled}
-use Rattle.certified_scopes.proofs.EachName.{each_with, get_front}
-use Rattle.certified_scopes.proofs.Settled.{declarations_are_settled, moved_scopes_are_settled}
-use Rattle.meant_processes.specs.Places.{AllFit, AreHoused, AreLinked, FitsIn, IsHoused, IsLinked, IsOwn}
-use Rattle.meant_processes.proofs.Housed.{declared_housed, housed_more}
-use Rattle.meant_processes.proofs.Linked.{declared_linked}
-use Rattle.meant_processes.proofs.Placing.{declared_front, got_below, home_behind}
+use Rattle.certified_scopes.proofs.EachName.{each_with}
+use Rattle.certified_scopes.proofs.Settled.{declarations_are_settled, moved_scopes_are_settled, turn_before}
+use Rattle.meant_processes.specs.Places.{AllFit, FitsIn, IsHoused, IsLinked, IsOwn}
+use Rattle.meant_processes.proofs.Placing.{home_behind, sited_alike, sited_behind, sited_more}
 use Rattle.certified_processes.specs.Places.{Coded, IsHeadBefore, IsInRoot, bare_scene, scene}
 use Rattle.certified_processes.proofs.There.{IsSound, IsThere, free_from}
 use Rattle.certified_processes.proofs.Allowed.{allowed}
@@ -94,19 +86,8 @@ declared_heads label es (Channels n) f all = names_heads label (channels_in es n
 -- The same names with other ranges, with a later label.
 pub placed_alike : (p : Coded) (s : Site) (k : Known) (label : ℕ) → IsThere p s
     → s.label ≤ label → begun_with k.blocks ≤ length k.entries → IsSound p s k.entries → IsThere p (at_place k label s)
-placed_alike p s k label placed further low sound = let same = sound.alike in record {
-  counted = placed.counted;
-  own = subst (λ (es : List Entry). AllByRecursion (λ e. IsOwn e.meaning) es) (sym same) placed.own;
-  channels = (of_main_alike (record { ports = p.program.ports; listens = [] }) k.entries s.known.entries same
-      (record { own = placed.own; ports = placed.channels })).ports;
-  links = placed.links;
-  housed = subst (AreHoused s.frame.homes) (sym same) placed.housed;
-  linked = subst (AreLinked p.program) (sym same) placed.linked;
-  declared = subst (λ (n : ℕ). p.program.position.declared ≤ n) (sym (long_alike k.entries s.known.entries same))
-      placed.declared;
-  alone = subst (λ (n : ℕ). p.program.position.parallel ≤ n) (sym (long_alike k.entries s.known.entries same))
-      placed.alone;
-  low = low;
+placed_alike p s k label placed further low sound = record {
+  sited = sited_alike p.program s k label placed.sited sound.alike low;
   outer = placed.outer;
   heads = heads_further s.label label further s.frame.homes placed.heads;
   free = placed.free;
@@ -125,53 +106,29 @@ placed_ordered p s placed = scope_ordered (scene p s) placed.settled.end s.known
 
 -- ---- frames
 
-names_outer : (count : ℕ) (names : List (List ℕ)) (f : Frame) → (with_names count names f).outer ≡ f.outer
-names_outer count [] f = refl
-names_outer count (name ∷ names) f = names_outer count names (with_words count f)
+-- a frame with more homes, which come behind those that it had, inside the same others
+abbrev pub MoreHomes : Frame → Frame → Type 0
+MoreHomes f g = (more : List Home) × (g.homes ≡ f.homes ++ more) × (g.outer ≡ f.outer)
 
-declared_outer : (es : List Entry) (d : Declaration) (f : Frame) → (declared es d f).outer ≡ f.outer
-declared_outer es (Constants c) f = refl
-declared_outer es (Variables n) f = names_outer (words_in es n.value_type n.size) (as_list n.names) f
-declared_outer es (Channels n) f = names_outer (channels_in es n.size) (as_list n.names) f
-
-names_more : (count : ℕ) (names : List (List ℕ)) (f : Frame)
-    → (more : List Home) × ((with_names count names f).homes ≡ f.homes ++ more)
-names_more count [] f = ([], sym (append-nil f.homes))
+names_more : (count : ℕ) (names : List (List ℕ)) (f : Frame) → MoreHomes f (with_names count names f)
+names_more count [] f = ([], sym (append-nil f.homes), refl)
 names_more count (name ∷ names) f =
     let rest = names_more count names (with_words count f) in
-    (home.Word f.top ∷ rest.0, rest.1 ∙ append_assoc f.homes (home.Word f.top ∷ []) rest.0)
+    (home.Word f.top ∷ rest.0, rest.1 ∙ append_assoc f.homes (home.Word f.top ∷ []) rest.0, rest.2)
 
--- the homes of a declaration come behind those before it
-pub declared_more : (es : List Entry) (d : Declaration) (f : Frame)
-    → (more : List Home) × ((declared es d f).homes ≡ f.homes ++ more)
-declared_more es (Constants c) f = (home_for es c.value_type c.value ∷ [], refl)
+-- the frame of a declaration is one
+pub declared_more : (es : List Entry) (d : Declaration) (f : Frame) → MoreHomes f (declared es d f)
+declared_more es (Constants c) f = (home_for es c.value_type c.value ∷ [], refl, refl)
 declared_more es (Variables n) f = names_more (words_in es n.value_type n.size) (as_list n.names) f
 declared_more es (Channels n) f = names_more (channels_in es n.size) (as_list n.names) f
 
 -- ---- words that are free
 
--- the next word is counted, and no earlier one
-free_after : (top count : ℕ) → word_after top count ≤ GREATEST_WORD
-unfolding word_after counted
-free_after top count = omega arith
-
-further_after : (top count : ℕ) → top ≤ GREATEST_WORD → top ≤ word_after top count
-unfolding word_after counted
-further_after top count free = omega (arith, free)
-
--- so are those behind names
+-- those behind names
 names_free : (count : ℕ) (names : List (List ℕ)) (f : Frame) → f.top ≤ GREATEST_WORD
     → (with_names count names f).top ≤ GREATEST_WORD
 names_free count [] f free = free
-names_free count (name ∷ names) f free = names_free count names (with_words count f) (free_after f.top count)
-
-names_further : (count : ℕ) (names : List (List ℕ)) (f : Frame) → f.top ≤ GREATEST_WORD
-    → f.top ≤ (with_names count names f).top
-names_further count [] f free = omega arith
-names_further count (name ∷ names) f free =
-    let here = further_after f.top count free in
-    let rest = names_further count names (with_words count f) (free_after f.top count) in
-    omega (arith, here, rest)
+names_free count (name ∷ names) f free = names_free count names (with_words count f) (after_counted f.top count)
 
 -- and behind a declaration
 declared_free : (es : List Entry) (d : Declaration) (f : Frame) → f.top ≤ GREATEST_WORD
@@ -191,17 +148,6 @@ IsChannel m = ⊥
 channel_is : (es : List Entry) (type : ValueType) (size : Option Expression) → IsChannel (channel_meaning es type size)
 channel_is es type None = tt
 channel_is es type (Some e) = tt
-
--- homes behind leave the words of those before
-turn_before : (hs more : List Home) (es : List Entry) (top : ℕ) → length es ≤ length hs → AreInTurn hs es top
-    → AreInTurn (hs ++ more) es top
-turn_before hs more [] top few turn = tt
-turn_before hs more (e ∷ es) top few turn =
-    let same = get_front hs more (length es) (omega (arith, few)) in (
-      subst (λ (o : Option Home). last_end o e.meaning ≤ top) (sym same) turn.0,
-      subst (λ (o : Option Home). AreInTurn (hs ++ more) es (first_word o e.meaning top)) (sym same)
-          (turn_before hs more es (first_word (slice_get hs (length es)) e.meaning top) (omega (arith, few)) turn.1),
-    )
 
 -- it has no word of which something is known
 channel_turn : (hs : List Home) (w : ℕ) (es : List Entry) (m : Meaning) (end : ℕ) → IsChannel m → AreInTurn hs es end
@@ -346,26 +292,10 @@ module _ (p : Coded) (root : IsInRoot p) where
       → AllFit p.program (declaration_code s.known.entries d s.frame.top) → IsThere p (with_declaration d s)
   placed_behind s d placed right typed fit =
       let es = s.known.entries in
-      let main = declared_of_main (record { ports = p.program.ports; listens = [] }) es d
-      (record { own = placed.own; ports = placed.channels }) in
-      let longer = declared_long d es in
-      let low = placed.low in
-      let outer = placed.declared in
-      let alone = placed.alone in
       let ends = declared_ends s d placed right typed fit in
       record {
-        counted = placed.counted;
-        own = main.own;
-        channels = main.ports;
-        links = λ n port at.
-            declared_front es d s.frame n (got_below s.frame.homes n _ (placed.links n port at))
-            ∙ placed.links n port at;
-        housed = declared_housed es d s.frame placed.settled.long placed.housed;
-        linked = declared_linked p.program es d placed.declared placed.alone placed.linked;
-        declared = omega (arith, outer, longer);
-        alone = omega (arith, alone, longer);
-        low = omega (arith, low, longer);
-        outer = declared_outer es d s.frame ∙ placed.outer;
+        sited = sited_behind p.program s d placed.sited placed.settled.long;
+        outer = (declared_more es d s.frame).2 ∙ placed.outer;
         heads = declared_heads s.label es d s.frame placed.heads;
         free = declared_free es d s.frame placed.free;
         end = ends.end;
@@ -390,30 +320,8 @@ pub placed_more : (p : Coded) (s t : Site) (h : Home) (e : Entry) (es : List Ent
     → IsSettled (bare_scene p) t.frame t.known.entries → IsThere p t
 placed_more p s t h e es placed further head homes outer entries same own housed linked low free end room under at_end
     settled =
-    let first : Entry = record { name = e.name; meaning = with_range (λ r. full) e.meaning } in
-    let main = of_main_more (record { ports = p.program.ports; listens = [] }) first (shape es) own
-    (of_main_alike (record { ports = p.program.ports; listens = [] }) es s.known.entries same
-    (record { own = placed.own; ports = placed.channels })) in
-    let inner = long_alike es s.known.entries same in
-    let all = ap (λ (xs : List Entry). length xs) entries in
-    let long : length s.known.entries ≤ length t.known.entries = omega (arith, inner, all) in
     record {
-      counted = placed.counted;
-      own = subst (λ (xs : List Entry). AllByRecursion (λ x. IsOwn x.meaning) (shape xs)) (sym entries) main.own;
-      channels = λ n port at. ap (λ (xs : List Entry). meaning_at n (shape xs)) entries ∙ main.ports n port at;
-      links = λ n port at.
-          let got = placed.links n port at in
-          ap (λ (hs : List Home). slice_get hs n) homes
-          ∙ get_before s.frame.homes h n (got_below s.frame.homes n _ got) ∙ got;
-      housed = subst (λ (x : List Home × List Entry). AreHoused x.0 (shape x.1)) (λ i. (sym homes i, sym entries i))
-          (housed_more s.frame.homes h first (shape es)
-          (placed.settled.long ∙ sym (long_alike es s.known.entries same) ∙ sym (shape_long es)) housed
-          (subst (AreHoused s.frame.homes) (sym same) placed.housed));
-      linked = subst (λ (xs : List Entry). AreLinked p.program (shape xs)) (sym entries)
-          (linked, subst (AreLinked p.program) (sym same) placed.linked);
-      declared = let outside = placed.declared in omega (arith, outside, long);
-      alone = let apart = placed.alone in omega (arith, apart, long);
-      low = low;
+      sited = sited_more p.program s t h e es placed.sited placed.settled.long homes entries same own housed linked low;
       outer = outer ∙ placed.outer;
       heads = subst (λ (hs : List Home). AllByRecursion (IsHeadBefore t.label) hs) (sym homes)
           (heads_more t.label s.frame.homes h (heads_further s.label t.label further s.frame.homes placed.heads) head);

@@ -33,14 +33,15 @@ use Rattle.usage_checks.proofs.RangesTyped.{ranges_are_typed}
 use Rattle.code_pieces.specs.Pieces.{Code}
 use Rattle.line_pieces.specs.Declarations.{with_home}
 use Rattle.line_pieces.specs.Homes.{Nowhere}
-use Rattle.code_generator.specs.Processes.{NoChoice, Site, by_block, component_code, if_code, in_each_turn, in_loop}
-use Rattle.code_generator.specs.Processes.{has_scalar, loop_code, loop_start, placed, repeated_seq}
-use Rattle.code_generator.specs.Processes.{times, turn_begun, value_or_zero, with_ending}
+use Rattle.code_generator.specs.Processes.{NoChoice, Site, if_code, in_each_turn}
+use Rattle.code_generator.specs.Processes.{has_scalar, loop_start, placed}
+use Rattle.code_generator.specs.Processes.{turn_begun, value_or_zero, with_ending}
 use Rattle.certified_lines.specs.Scopes.{HoldsScope}
 use Rattle.certified_lines.specs.StraightRules.{Told}
 use Rattle.certified_modules.specs.Passing.{OpenLabel}
 use Rattle.certified_scopes.specs.Processes.{changed_in}
 use Rattle.meant_processes.specs.Places.{AllFit, standing, surroundings}
+use Rattle.meant_processes.proofs.RepeatedBlocks.{BodyCode}
 use Rattle.certified_processes.specs.Places.{Coded, IsInRoot, scene}
 use Rattle.certified_processes.proofs.There.{IsThere}
 use Rattle.certified_processes.specs.ProcessesPass.{PassesTo}
@@ -66,20 +67,6 @@ turn_word base n count h less =
     index_word base (pos (suc count)) n (suc count) h less (inr ((counts_on base count h).1, refl))
 
 module _ (p : Coded) (root : IsInRoot p) where
-  -- the code of a body by the word of its block
-  abbrev BodyCode : {part : Part} → Terminal → Component part → Bool → Replicator → (base count : ℤ) → Site → Known
-      → List ℕ → Code → Type 0
-  BodyCode word body counted r base count s after ns c =
-      let repeats = repeats_of counted s.known.entries (is_seq word) r in
-      let start = begun_body word ns repeats.happens s.known in
-      let inner = in_loop s start r.name (index_in repeats 0) in
-      by_block word
-      (repeated_seq s ns after base
-      (loop_code s inner after base count (component_code (surroundings p.program) body inner)) count)
-      (if_code s (with_home Nowhere s.frame) after (with_ending (in_each_turn
-      (λ n. placed (surroundings p.program) body (turn_begun p.program.around word r.name body repeats start n))
-      (times repeats)))) ≡ Some c
-
   abbrev changes : {part : Part} → Terminal → Component part → Replicator → Site → List ℕ
   changes word body r s =
       changed_by_component p.program.around.signatures (add r.name (index_meaning (is_seq word) None) s.known.entries)
@@ -96,19 +83,20 @@ module _ (p : Coded) (root : IsInRoot p) where
       (with_entries (add r.name (index_in repeats n)) l))
       n (begun_body word (changes word body r s) happens s.known)))
 
+  -- the code of an IF passes
+  abbrev RepeatedIfPasses : ℕ → Expression → Process → Replicator → Site → List OpenLabel → Told → Code → Type 0
+  RepeatedIfPasses line e q r s opened before c =
+      let after = body_ended p.program.around (Mark mark.If) (Chosen line e q) r true s.known in
+      BodyCode (surroundings p.program) (Mark mark.If) (Chosen line e q) true r (pos 0) (pos 0) s after
+      (changes (Mark mark.If) (Chosen line e q) r s) c
+      → AllFit p.program c.pieces → HoldsScope (scene p s) s.known.entries before.frame
+      → PassesTo p s.frame after.entries opened c.pieces before
+
   -- an IF without turns
   no_choices : (line : ℕ) (e : Expression) (q : Process) (r : Replicator) (s : Site) (opened : List OpenLabel)
       (before : Told) (c : Code) (placed_there : IsThere p s) → AreInTypes s.known.entries
       → (repeats_of true s.known.entries false r).happens ≡ false
-      → if_code s (with_home Nowhere s.frame)
-      (body_ended p.program.around (Mark mark.If) (Chosen line e q) r true s.known) (with_ending (in_each_turn
-      (λ n. placed (surroundings p.program) (Chosen line e q) (turn_begun p.program.around (Mark mark.If) r.name
-      (Chosen line e q) (repeats_of true s.known.entries false r) (begun_body (Mark mark.If)
-      (changes (Mark mark.If) (Chosen line e q) r s) (repeats_of true s.known.entries false r).happens s.known) n))
-      (times (repeats_of true s.known.entries false r)))) ≡ Some c
-      → AllFit p.program c.pieces → HoldsScope (scene p s) s.known.entries before.frame
-      → PassesTo p s.frame (body_ended p.program.around (Mark mark.If) (Chosen line e q) r true s.known).entries opened
-      c.pieces before
+      → RepeatedIfPasses line e q r s opened before c
   no_choices line e q r s opened before c placed_there typed never is fit holds =
       let a = p.program.around in
       let es = s.known.entries in
@@ -146,15 +134,7 @@ module _ (p : Coded) (root : IsInRoot p) where
       → (happens_is : (repeats_of true s.known.entries false r).happens ≡ true)
       → (repeats_of true s.known.entries false r).turns.count ≡ suc n
       → Comes (Mark mark.If) (Chosen line e q) r s (repeats_of true s.known.entries false r).happens
-      → if_code s (with_home Nowhere s.frame)
-      (body_ended p.program.around (Mark mark.If) (Chosen line e q) r true s.known) (with_ending (in_each_turn
-      (λ n. placed (surroundings p.program) (Chosen line e q) (turn_begun p.program.around (Mark mark.If) r.name
-      (Chosen line e q) (repeats_of true s.known.entries false r) (begun_body (Mark mark.If)
-      (changes (Mark mark.If) (Chosen line e q) r s) (repeats_of true s.known.entries false r).happens s.known) n))
-      (times (repeats_of true s.known.entries false r)))) ≡ Some c
-      → AllFit p.program c.pieces → HoldsScope (scene p s) s.known.entries before.frame
-      → PassesTo p s.frame (body_ended p.program.around (Mark mark.If) (Chosen line e q) r true s.known).entries opened
-      c.pieces before
+      → RepeatedIfPasses line e q r s opened before c
   turned_choices line e q r base n s opened before c placed_there typed goes sequential literals words base_is word
       happens_is times_is reach is fit holds =
       let a = p.program.around in
@@ -193,7 +173,8 @@ module _ (p : Coded) (root : IsInRoot p) where
       → ProcessGoes p (process_of body) → (h : ReplicatorHolds s.known.entries r) → h.count ≡ count
       → Comes word body r s (repeats_of true s.known.entries (is_seq word) r).happens
       → (placed_there : IsThere p s) → AreInTypes s.known.entries
-      → BodyCode word body counted r h.base count s (body_ended p.program.around word body r counted s.known)
+      → BodyCode (surroundings p.program) word body counted r h.base count s
+      (body_ended p.program.around word body r counted s.known)
       (changes word body r s) c
       → AllFit p.program c.pieces → HoldsScope (scene p s) s.known.entries before.frame
       → PassesTo p s.frame (body_ended p.program.around word body r counted s.known).entries opened c.pieces before
@@ -276,14 +257,15 @@ module _ (p : Coded) (root : IsInRoot p) where
         let all = and_parts (replicator_has_words r) (component_has_words body) words in
         let both = and_parts (has_words r.base) (has_words r.count) all.0 in
         let counted = is_before line a.uncounted in
-        let is_counted : counted ≡ true = ap (is_before line) placed_there.counted in
+        let is_counted : counted ≡ true = ap (is_before line) placed_there.sited.counted in
         let after = after_body a line r (One kind body) s.known in
         let ns = changes word body r s in
         let base_is : value_or_zero es r.base ≡ h.base = ap (λ (o : Option ℤ). unwrap_or o (pos 0)) h.base_is in
         let count_is : value_or_zero es r.count ≡ h.count = ap (λ (o : Option ℤ). unwrap_or o (pos 0)) h.count_is in
-        let code : BodyCode word body counted r h.base h.count s after ns c =
-        subst (λ x. BodyCode word body counted r h.base x s after ns c) count_is
-        (subst (λ x. BodyCode word body counted r x (value_or_zero es r.count) s after ns c) base_is is) in
+        let code : BodyCode (surroundings p.program) word body counted r h.base h.count s after ns c =
+        subst (λ x. BodyCode (surroundings p.program) word body counted r h.base x s after ns c) count_is
+        (subst (λ x. BodyCode (surroundings p.program) word body counted r x (value_or_zero es r.count) s after ns c)
+        base_is is) in
         body_by word body counted r h.count s opened before c is_counted sequential all.1 both.1 goes h refl
         (subst (λ (b : Bool).
         (n : ℕ) → n < (repeats_of b es (is_seq word) r).turns.count → Reaches p.program.items u (AComponent body)

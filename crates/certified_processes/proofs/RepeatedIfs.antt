@@ -20,7 +20,6 @@ use Rattle.scalar_ranges.specs.Narrowing.{Tested, by_test, changed, is_narrowed,
 use Rattle.scalar_ranges.proofs.MoveLaws.{changed_shape, shapes_stay}
 use Rattle.scalar_ranges.proofs.Named.{changed_at, unchanged}
 use Rattle.scalar_ranges.proofs.Nesting.{long_alike, outermost_twice}
-use Rattle.program_uses.specs.Changes.{changed_by}
 use Rattle.program_uses.specs.Constants.{value_as}
 use Rattle.program_uses.specs.Declaring.{add}
 use Rattle.program_uses.specs.Indices.{Repeats, index_at, index_in, repeats_of, turn_by_turn, turns_from}
@@ -30,7 +29,6 @@ use Rattle.usage_checks.specs.AfterProcesses.{after_component, chosen, inside}
 use Rattle.usage_checks.specs.NameRules.{with_entries}
 use Rattle.usage_checks.specs.Reaching.{AComponent, Reaches, to_process}
 use Rattle.usage_checks.specs.TypedRanges.{AreInTypes}
-use Rattle.usage_checks.proofs.ChoicesGoWell.{chosen_next}
 use Rattle.usage_checks.proofs.PlacesHold.{places_hold}
 use Rattle.usage_checks.proofs.RangesStay.{all_but_one, ranges_stay}
 use Rattle.usage_checks.proofs.RangesTyped.{ranges_are_typed}
@@ -57,7 +55,7 @@ use Rattle.certified_processes.proofs.Allowed.{allowed}
 use Rattle.certified_processes.proofs.Choices.{ChoiceGoes, ChoicesGo, sound_moved, sound_ordered}
 use Rattle.certified_processes.proofs.There.{IsSound}
 use Rattle.certified_processes.proofs.Conditions.{condition_shows, test_scalar}
-use Rattle.certified_processes.proofs.Ifs.{AtNext}
+use Rattle.certified_processes.proofs.Ifs.{AtNext, choice_after}
 use Rattle.certified_processes.proofs.LabelsRise.{process_rises}
 use Rattle.certified_processes.proofs.Lines.{row_tells}
 use Rattle.certified_processes.proofs.LoopRows.{facts_more}
@@ -202,7 +200,7 @@ module _ (p : Coded) (root : IsInRoot p) (s : Site) (placed_there : IsThere p s)
         let homes_rest : length s.frame.homes ≡ length rest = homes_long ∙ sym start_long ∙ sym rest_long in
         record {
           next_is = ap (λ (z : Known). z.entries)
-              (chosen_next (changed_by a.signatures y.entries q) e start ends s.known.blocks k final refl stays);
+              (choice_after a line e q k.entries start ends s.known.blocks (omega arith));
           sound = sound_moved p s rest placed_there (shapes_stay.excluding k.entries start e ∙ sound.alike)
               (indices_stay.excluding k.entries start e
               (ap shape (sym (all_but_one (length start) (record { name = name; meaning = Constant value_type.Int o })
@@ -218,11 +216,7 @@ module _ (p : Coded) (root : IsInRoot p) (s : Site) (placed_there : IsThere p s)
               b.1
               (allowed p root turn_frame.homes _ fit) in
               record {
-                after = t.after;
-                falls = t.falls;
-                range = t.range;
-                fact = t.fact;
-                ranged = t.ranged;
+                shows = t;
                 so = t.holds true;
                 not_so = subst (λ (es : List Entry). HoldsScope (scene p s) es (where_it false t.after))
                     (ap (λ (n : ℕ). outermost n (narrow k.entries e false)) (homes_long ∙ sym start_long)
@@ -308,18 +302,12 @@ module _ (p : Coded) (root : IsInRoot p) (s : Site) (placed_there : IsThere p s)
           let go = turn_goes o v start ends o_is (is_word_out v (word n less)) h.2.sound reached goes sequential
           literals
           words in
-          let y = chosen e x in
           let rest = excluded e x.entries start in
-          let final = inside a q y in
-          let rest_long = long_alike rest start (shapes_stay.excluding x.entries start e) in
-          let y_long = long_alike y.entries x.entries (shapes_stay.narrowing x.entries e true) in
-          let stays = ranges_stay.processes a q y (omega (arith, rest_long, y_long)) in
-          let ending = outermost (length rest) final.entries in (
+          let ending = outermost (length rest) (inside a q (chosen e x)).entries in (
             rest,
             Some (ends_with ends ending),
             record {
-              is = ap (step n) h.2.is
-                  ∙ chosen_next (changed_by a.signatures y.entries q) e start ends s.known.blocks x final refl stays;
+              is = ap (step n) h.2.is ∙ choice_after a line e q x.entries start ends s.known.blocks (omega arith);
               sound = go.sound;
             },
             (

@@ -12,19 +12,18 @@ use Rattle.occam_parser.specs.Words.{process_has_words}
 use Rattle.scalar_ranges.specs.Entries.{Entry}
 use Rattle.scalar_ranges.specs.Moves.{Known, outermost}
 use Rattle.scalar_ranges.proofs.Nesting.{outermost_twice}
-use Rattle.program_uses.specs.Changes.{changed_by, changed_by_components}
+use Rattle.program_uses.specs.Changes.{changed_by}
 use Rattle.program_uses.specs.Declaring.{add_declaration}
 use Rattle.program_meaning.specs.Sequential.{AreSequential, IsSequential, IsSequentialConstruct}
-use Rattle.program_meaning.proofs.MovesWithin.{within_shape}
 use Rattle.usage_checks.specs.AfterProcesses.{after_components, after_construct, inside}
 use Rattle.usage_checks.specs.Holding.{DeclarationHolds}
 use Rattle.usage_checks.specs.Outlines.{IsMadeOf}
-use Rattle.usage_checks.specs.Reaching.{AComponent, AProcess, Piece, Reaches, StandsAmong, behind, process_of}
+use Rattle.usage_checks.specs.Reaching.{AComponent, AProcess, Piece, Reaches, StandsAmong, behind}
 use Rattle.usage_checks.specs.Reaching.{to_process}
 use Rattle.usage_checks.specs.TypedRanges.{AreInTypes}
 use Rattle.usage_checks.proofs.PlacesHold.{places_hold}
-use Rattle.usage_checks.proofs.RangesStay.{all_outermost, components_stay, covers_itself, declared_long, left_is}
-use Rattle.usage_checks.proofs.RangesStay.{ranges_stay, remains_low}
+use Rattle.usage_checks.proofs.RangesStay.{all_outermost, declared_long, left_is}
+use Rattle.usage_checks.proofs.RangesStay.{ranges_stay}
 use Rattle.usage_checks.proofs.RangesTyped.{ranges_are_typed}
 use Rattle.usage_checks.proofs.TypedMoves.{typed_left}
 use Rattle.code_pieces.specs.Pieces as pieces
@@ -39,12 +38,15 @@ use Rattle.certified_lines.specs.StraightRules.{FallOn, Told, done}
 use Rattle.certified_lines.proofs.Telling.{stay_alike}
 use Rattle.certified_actions.proofs.Declaring.{declarations_fall}
 use Rattle.certified_modules.specs.Passing.{OpenLabel, both, none, straight}
+use Rattle.certified_scopes.specs.Kept.{AreDeclared, HasFew}
 use Rattle.certified_scopes.specs.Settled.{AreOrdered}
 use Rattle.certified_scopes.proofs.Indices.{index_lengths}
 use Rattle.certified_scopes.proofs.Kept.{declared_names_are_held, left_scopes_are_held}
 use Rattle.certified_scopes.proofs.ProcessesKeep.{indices_are_kept}
 use Rattle.certified_scopes.proofs.TurnsWithin.{processes_leave_scopes_settled}
 use Rattle.meant_processes.specs.Places.{AllFit, FitsIn, standing, surroundings}
+use Rattle.meant_processes.proofs.EachProcess.{OfEach}
+use Rattle.meant_processes.proofs.Sequences.{components_remain}
 use Rattle.meant_processes.proofs.CodeParts.{before_is, then_is, written_is}
 use Rattle.certified_processes.specs.Places.{Coded, IsInRoot, bare_scene, scene, scene_at}
 use Rattle.certified_processes.proofs.There.{IsThere}
@@ -73,8 +75,7 @@ pub record ConstructGoes (p : Coded) (construct : Construct) : Type 0 where
       → PassesTo p s.frame (after_construct p.program.around line construct s.known).entries opened c.pieces before
 
 abbrev pub EachGoes : {part : Part} → Coded → Components part → Type 0
-EachGoes p NoComponent = Unit {0}
-EachGoes p (Further cs c) = EachGoes p cs × ProcessGoes p (process_of c)
+EachGoes p cs = OfEach (ProcessGoes p) cs
 
 module _ (p : Coded) (root : IsInRoot p) where
   -- ---- declarations
@@ -84,6 +85,20 @@ module _ (p : Coded) (root : IsInRoot p) where
     after : Told
     falls : FallOn p.passage.setting (declaration_code s.known.entries d s.frame.top) before after
     holds : HoldsScope (scene p (with_declaration d s)) (add_declaration d s.known.entries) after.frame
+
+  -- one without code
+  declares_silently : (s : Site) (d : Declaration) (before : Told) → IsThere p s
+      → FallOn p.passage.setting (declaration_code s.known.entries d s.frame.top) before before
+      → HasFew d (declared s.known.entries d s.frame).top
+      → AreDeclared d before.frame s.frame.top (declared s.known.entries d s.frame).top
+      → HoldsScope (scene p s) s.known.entries before.frame → Declares s d before
+  declares_silently s d before placed falls few known holds = record {
+    after = before;
+    falls = falls;
+    holds = declared_names_are_held (bare_scene p) s.frame s.known.entries d placed.settled.end before.frame
+        before.frame placed.settled.long placed.settled.scope placed.settled.under few
+        (stay_alike s.frame.top before.frame) known holds;
+  }
 
   declares : (s : Site) (d : Declaration) (before : Told) → IsThere p s → DeclarationHolds s.known.entries d
       → declaration_has_words d ≡ true → AllFit p.program (declaration_code s.known.entries d s.frame.top)
@@ -104,20 +119,10 @@ module _ (p : Coded) (root : IsInRoot p) where
       (omega (arith, low, few)))
       (allowed p root s.frame.homes (declaration_code es (Variables n) s.frame.top) fit) holds in
       record { after = fall.after; falls = fall.falls; holds = fall.holds }
-  declares s (Constants c) before placed right words fit holds = record {
-    after = before;
-    falls = done;
-    holds = declared_names_are_held (bare_scene p) s.frame s.known.entries (Constants c) placed.settled.end before.frame
-        before.frame placed.settled.long placed.settled.scope placed.settled.under tt
-        (stay_alike s.frame.top before.frame) tt holds;
-  }
-  declares s (Channels n) before placed right words fit holds = record {
-    after = before;
-    falls = done;
-    holds = declared_names_are_held (bare_scene p) s.frame s.known.entries (Channels n) placed.settled.end before.frame
-        before.frame placed.settled.long placed.settled.scope placed.settled.under tt
-        (stay_alike s.frame.top before.frame) tt holds;
-  }
+  declares s (Constants c) before placed right words fit holds =
+      declares_silently s (Constants c) before placed done tt tt holds
+  declares s (Channels n) before placed right words fit holds =
+      declares_silently s (Channels n) before placed done tt tt holds
 
   -- the scope of a declaration is left
   declared_left : (s : Site) (d : Declaration) (q : Process) (opened : List OpenLabel) (ps : List pieces.Piece)
@@ -146,7 +151,8 @@ module _ (p : Coded) (root : IsInRoot p) where
             (left_scopes_are_held (scene p s) more.0 (left_by p q (with_declaration d s)) inner.after.frame
             (subst (λ (hs : List Home). HoldsScope (scene_at p hs) (left_by p q (with_declaration d s))
             inner.after.frame) more.1 inner.holds));
-        settled = processes_leave_scopes_settled (bare_scene p) s.frame a (Declared d q) s.known sequential placed.low
+        settled = processes_leave_scopes_settled (bare_scene p) s.frame a (Declared d q) s.known sequential
+            placed.sited.low
             typed ordered placed.settled;
         typed = typed;
       }
@@ -201,7 +207,7 @@ module _ (p : Coded) (root : IsInRoot p) where
         let left = (after_construct a line c s.known).entries in
         subst (λ (xs : List Entry). PassesTo p s.frame xs opened code.pieces before)
         (sym (all_outermost (length es) left
-        (index_lengths left es (indices_are_kept.constructs a line c s.known sequential placed.low))))
+        (index_lengths left es (indices_are_kept.constructs a line c s.known sequential placed.sited.low))))
         (goes.passes first line s opened before code reached sequential words placed is fit holds);
   }
 
@@ -225,30 +231,27 @@ module _ (p : Coded) (root : IsInRoot p) where
       let w = surroundings p.program in
       let m = after_components a (Mark mark.Seq) cs s.known in
       let all = and_parts (components_have_words cs) (process_has_words q) words in
-      let ns = changed_by_components a.signatures s.known.entries cs in
-      let remains = components_stay a ns (Mark mark.Seq) cs s.known made (covers_itself ns) placed.low in
-      let low = remains_low ns s.known m remains placed.low in
-      let same = within_shape ns m.entries s.known.entries remains.within in
+      let remain = components_remain a cs s.known made placed.sited.low in
       let here = to_process (standing p.program) (Plain q) m (reach (AComponent (Plain q)) m (inl (refl, refl))) in
       let t = then_is (components_code w cs s) (λ label. component_code w (Plain q) (at_place m label s)) c is in
       let fits = subst (AllFit p.program) t.pieces fit in
       let sm = at_place m t.first.labels s in
-      let stays = ranges_stay.processes a q m low in
+      let stays = ranges_stay.processes a q m remain.0 in
       let one = components_pass cs s opened before t.first (λ piece x among. reach piece x (inr among)) each.0 made
       sequential.0 all.0 placed typed t.first_is (all_first (FitsIn p.program) t.first.pieces t.last.pieces fits)
       holds in
       let two = each.1.passes (length m.entries) sm opened one.after t.last here sequential.1 all.1
       (placed_alike p s m t.first.labels placed
-      (subst (Rises s.label) t.first_is (components_rise p root cs s)) low
+      (subst (Rises s.label) t.first_is (components_rise p root cs s)) remain.0
       (record {
         settled = one.settled;
         typed = one.typed;
-        alike = same;
-        indices = indices_are_kept.components a cs s.known made sequential.0 placed.low;
+        alike = remain.1;
+        indices = indices_are_kept.components a cs s.known made sequential.0 placed.sited.low;
       })) t.last_is
       (all_last (FitsIn p.program) t.first.pieces t.last.pieces fits) one.holds in
       subst (λ (x : List pieces.Piece × List Entry). PassesTo p s.frame x.1 opened x.0 before)
-      (λ i. (sym t.pieces i, sym (left_is (changed_by a.signatures m.entries q) m (inside a q m) stays low) i))
+      (λ i. (sym t.pieces i, sym (left_is (changed_by a.signatures m.entries q) m (inside a q m) stays remain.0) i))
       (record {
         after = two.after;
         passes = both {t = Some one.after} {u = Some two.after} one.passes two.passes;

@@ -1,5 +1,5 @@
 -- Where a process of a program is whose code is in a module, and what is asked of the whole module.
-use Rattle.std.specs.Prelude.{◌≡◌, ℕ, ◌<◌, ◌≤◌, true, List, [], length, Some, None, slice_get}
+use Rattle.std.specs.Prelude.{◌≡◌, ℕ, ◌<◌, ◌≤◌, true, List, [], Some}
 use Rattle.std.specs.List.{AllByRecursion}
 use Rattle.module_format.specs.declared.limits.TheConstants.{MAX_DATA_WORDS}
 use Rattle.module_format.specs.declared.rows.Direction as end_ways
@@ -9,9 +9,6 @@ use Rattle.module_format.specs.Contents.{link_length}
 use Rattle.certificate.specs.Rights.{has_end}
 use Rattle.occam_parser.specs.Words.{items_have_words}
 use Rattle.scalar_ranges.specs.Environments.{item_at}
-use Rattle.scalar_ranges.specs.Entries.{Channel}
-use Rattle.scalar_ranges.specs.MoveLaws.{shape, meaning_at}
-use Rattle.scalar_ranges.specs.Moves.{begun_with}
 use Rattle.program_uses.specs.declared.uses.Direction.{Direction}
 use Rattle.program_uses.specs.declared.uses.Direction.TheVariants as direction
 use Rattle.program_meaning.specs.Links.{Port, message_length}
@@ -20,7 +17,7 @@ use Rattle.line_pieces.specs.Homes.{Block, Home, Link}
 use Rattle.code_generator.specs.Calls.{Callee, where_called}
 use Rattle.code_generator.specs.Processes.{Site}
 use Rattle.code_generator.specs.Programs.{link_of}
-use Rattle.meant_processes.specs.Places.{Program, surroundings, IsOwn, AreHoused, AreLinked}
+use Rattle.meant_processes.specs.Places.{Program, surroundings, IsSited}
 use Rattle.certified_lines.specs.Scopes.{Scene}
 use Rattle.certified_modules.specs.Passing.{Passage}
 use Rattle.certified_actions.specs.Declaring.{MayUse}
@@ -92,17 +89,7 @@ IsHeadBefore label h = Unit {0}
 -- At a site each name has its home in the frame, of its kind. The ports are links, and no other channel may be used.
 -- What is declared from here on is declared in the process, and no PAR is around it.
 pub record IsPlaced (p : Coded) (s : Site) : Type 0 where
-  pub counted : p.program.around.uncounted ≡ None
-  pub own : AllByRecursion (λ e. IsOwn e.meaning) (shape s.known.entries)
-  pub channels : (n : ℕ) (port : Port) → item_at n p.program.ports ≡ Some (Some port)
-      → meaning_at n (shape s.known.entries) ≡ Some (Channel port.carries)
-  pub links : (n : ℕ) (port : Port) → item_at n p.program.ports ≡ Some (Some port)
-      → slice_get s.frame.homes n ≡ Some (Link (link_of port))
-  pub housed : AreHoused s.frame.homes (shape s.known.entries)
-  pub linked : AreLinked p.program (shape s.known.entries)
-  pub declared : p.program.position.declared ≤ length s.known.entries
-  pub alone : p.program.position.parallel ≤ length s.known.entries
-  pub low : begun_with s.known.blocks ≤ length s.known.entries
+  pub sited : IsSited p.program s
   pub outer : s.frame.outer ≡ []
   pub heads : AllByRecursion (IsHeadBefore s.label) s.frame.homes
   pub room : s.frame.top ≤ p.program.words

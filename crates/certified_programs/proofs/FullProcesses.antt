@@ -1,6 +1,6 @@
 -- The code of a sequential process addresses no empty table, if it declares no empty text and no home is an empty
 -- table.
-use Rattle.std.proofs.Common.{ℕ, zero, suc, ◌+◌, ◌≤◌, ℤ, pos, negsuc, Bool, true, false, cond, List, [], ◌∷◌, ◌++◌}
+use Rattle.std.proofs.Common.{ℕ, ◌+◌, ◌≤◌, ℤ, pos, Bool, true, false, List, [], ◌∷◌, ◌++◌}
 use Rattle.std.proofs.Common.{length, Option, Some, None, arith}
 use Rattle.std.specs.Prelude.{⊤, map, pos}
 use Rattle.occam_layout.specs.declared.mark.Mark.TheVariants as mark
@@ -17,12 +17,9 @@ use Rattle.occam_parser.specs.Blocks.{Guarded, NoComponent, One, Part, Plain, Pr
 use Rattle.scalar_ranges.specs.Entries.{Entry}
 use Rattle.scalar_ranges.specs.Moves.{Known}
 use Rattle.scalar_ranges.specs.Narrowing.{test_of}
-use Rattle.program_uses.specs.Actions.{is_before}
-use Rattle.program_uses.specs.Changes.{changed_by_body}
-use Rattle.program_uses.specs.Indices.{index_in, is_seq, repeats_of}
 use Rattle.program_meaning.specs.Sequential.{AreSequential, IsSequential, IsSequentialAction, IsSequentialBody}
 use Rattle.program_meaning.specs.Sequential.{IsSequentialComponent, IsSequentialConstruct}
-use Rattle.usage_checks.specs.AfterProcesses.{after_body, after_components, begun, begun_body, chosen, ended}
+use Rattle.usage_checks.specs.AfterProcesses.{after_components, begun, chosen, ended}
 use Rattle.code_pieces.specs.Pieces.{Code, Jump, JumpUnless, Piece, before, closed_by, then_code}
 use Rattle.code_pieces.proofs.AllOfPieces.{all_both}
 use Rattle.line_pieces.specs.Actions.{forgets, may_show, test_code}
@@ -33,11 +30,13 @@ use Rattle.line_pieces.specs.Homes.{Home, Nowhere, Word}
 use Rattle.code_generator.specs.Processes.{Always, EndedChoices, IfEnding, NoChoice, Opens, PlacedChoice}
 use Rattle.code_generator.specs.Processes.{PlacedChoices, Site, Stops, Surroundings, ThenChoice, all_tested}
 use Rattle.code_generator.specs.Processes.{at_place, body_code, by_block, choices_code, component_code}
-use Rattle.code_generator.specs.Processes.{components_code, construct_code, ending_code, has_scalar, if_code}
-use Rattle.code_generator.specs.Processes.{in_each_turn, in_loop, is_true, line_code, loop_code, loop_end, loop_start}
-use Rattle.code_generator.specs.Processes.{no_loop, opening, placed, placed_choices, process_code, repeated_seq, row_of}
-use Rattle.code_generator.specs.Processes.{taken_code, tested_code, times, turn_begun, value_or_zero}
+use Rattle.code_generator.specs.Processes.{components_code, construct_code, ending_code, if_code}
+use Rattle.code_generator.specs.Processes.{in_each_turn, line_code, loop_code, loop_end, loop_start}
+use Rattle.code_generator.specs.Processes.{no_loop, placed, placed_choices, process_code, row_of}
+use Rattle.code_generator.specs.Processes.{taken_code, tested_code}
 use Rattle.code_generator.specs.Processes.{with_declaration, with_ending, with_opening}
+use Rattle.meant_code.proofs.BlocksHold.{EachChoice, EndedHold, EndingHolds, body_holds, by_word, ending_holds}
+use Rattle.meant_code.proofs.BlocksHold.{loop_inside, opening_holds, turns_hold}
 use Rattle.certified_modules.specs.Certifying.{HasValues}
 use Rattle.certified_programs.proofs.FullLines.{AreFull, HaveValues, IsFull, assign_is, declaration_is, expression_is}
 use Rattle.certified_programs.proofs.FullLines.{forgets_is, input_is, loop_start_is, output_is}
@@ -110,40 +109,6 @@ line_full w (Output channel value) s seq have =
 abbrev ChoiceFull : Frame → PlacedChoice → Type 0
 ChoiceFull f c = (label : ℕ) → Full (taken_code f c label)
 
-abbrev AllFull : Frame → PlacedChoices → Type 0
-AllFull f NoChoice = ⊤
-AllFull f (ThenChoice cs c) = AllFull f cs × ChoiceFull f c
-
-abbrev EndingFull : Frame → IfEnding → Type 0
-EndingFull f Stops = ⊤
-EndingFull f (Always c) = ChoiceFull f c
-EndingFull f (Opens c) = ChoiceFull f c
-
-abbrev ChoicesFull : Frame → EndedChoices → Type 0
-ChoicesFull f x = AllFull f x.tested × EndingFull f x.ending
-
-ending_by : (holds : Bool) (f : Frame) (cs : PlacedChoices) (c : PlacedChoice) → AllFull f (ThenChoice cs c)
-    → ChoicesFull f (cond holds (record { tested = cs; ending = Always c })
-    (record { tested = ThenChoice cs c; ending = Stops }))
-ending_by true f cs c all = (all.0, all.1)
-ending_by false f cs c all = (all, tt)
-
-ending_full : (f : Frame) (cs : PlacedChoices) → AllFull f cs → ChoicesFull f (with_ending cs)
-ending_full f NoChoice all = (tt, tt)
-ending_full f (ThenChoice cs c) all = ending_by (is_true c.condition) f cs c all
-
-opening_by : (skips : Bool) (f : Frame) (cs : PlacedChoices) (opened c : PlacedChoice)
-    → AllFull f (ThenChoice cs opened) → ChoiceFull f c
-    → ChoicesFull f (cond skips (record { tested = cs; ending = Opens opened })
-    (record { tested = ThenChoice cs opened; ending = Always c }))
-opening_by true f cs opened c all last = (all.0, all.1)
-opening_by false f cs opened c all last = (all, last)
-
-opening_full : (f : Frame) (cs : PlacedChoices) (x : IfEnding) → AllFull f cs → EndingFull f x
-    → ChoicesFull f (opening cs x)
-opening_full f (ThenChoice cs opened) (Always c) all last = opening_by c.is_skip f cs opened c all last
-opening_full f cs x all last = (all, last)
-
 module _ (f : Frame) (have : HaveValues f.homes) where
   test_full : (es : List Entry) (e : Expression) (to : ℕ) → AreFull (test_code f.homes es f.top e to)
   test_full es e to =
@@ -161,20 +126,21 @@ module _ (f : Frame) (have : HaveValues f.homes) where
       (closed_full (Jump to ∷ row_of label f c.after ∷ []) (taken_code f c (label + 1)) (tt, (tt, tt))
       (full (label + 1)))
 
-  all_tested_full : (to : ℕ) (cs : PlacedChoices) (label : ℕ) → AllFull f cs → Full (all_tested to f cs label)
+  all_tested_full : (to : ℕ) (cs : PlacedChoices) (label : ℕ) → EachChoice (ChoiceFull f) cs
+      → Full (all_tested to f cs label)
   all_tested_full to NoChoice label all = tt
   all_tested_full to (ThenChoice cs c) label all =
       then_full (all_tested to f cs label) (tested_code to f c) (all_tested_full to cs label all.0)
       (λ next. tested_full to c next all.1)
 
-  what_ends_full : (to : ℕ) (x : IfEnding) (label : ℕ) → EndingFull f x → Full (ending_code to f x label)
+  what_ends_full : (to : ℕ) (x : IfEnding) (label : ℕ) → EndingHolds (ChoiceFull f) x → Full (ending_code to f x label)
   what_ends_full to Stops label full = (tt, tt)
   what_ends_full to (Always c) label full = full label
   what_ends_full to (Opens c) label full =
       before_full (test_code f.homes c.known.entries f.top c.condition to) (taken_code f c label)
       (test_full c.known.entries c.condition to) (full label)
 
-  if_full : (s : Site) (after : Known) (x : EndedChoices) → ChoicesFull f x → Full (if_code s f after x)
+  if_full : (s : Site) (after : Known) (x : EndedChoices) → EndedHold (ChoiceFull f) x → Full (if_code s f after x)
   if_full s after x all =
       closed_full (row_of s.label s.frame after ∷ []) (choices_code s.label f x (s.label + 1)) (tt, tt)
       (then_full (all_tested s.label f x.tested (s.label + 1)) (ending_code s.label f x.ending)
@@ -186,12 +152,6 @@ no_loop_full : (changes : Bool) (s : Site) (after : Known) → Full (no_loop cha
 no_loop_full false s after = tt
 no_loop_full true s after = (tt, tt)
 
-repeated_full : (s : Site) (changed : List ℕ) (after : Known) (base : ℤ) (loop : Option Code) (count : ℤ)
-    → Full loop → Full (repeated_seq s changed after base loop count)
-repeated_full s changed after base loop (pos zero) full = no_loop_full (has_scalar changed s.known.entries) s after
-repeated_full s changed after base loop (pos (suc n)) full = full
-repeated_full s changed after base loop (negsuc n) full = full
-
 loop_full : (s inner : Site) (after : Known) (base count : ℤ) (body : Option Code) → Full body
     → Full (loop_code s inner after base count body)
 loop_full s inner after base count body full =
@@ -201,16 +161,6 @@ loop_full s inner after base count body full =
     before_full (start ++ row) (closed_by last body)
     (all_both HasValues start row (loop_start_is s.frame.top base count) (tt, tt))
     (closed_full last body (tt, (tt, (tt, tt))) full)
-
-turns_full : (choice : ℕ → PlacedChoice) (f : Frame) (count : ℕ) → ((n : ℕ) → ChoiceFull f (choice n))
-    → AllFull f (in_each_turn choice count)
-turns_full choice f zero all = tt
-turns_full choice f (suc n) all = (turns_full choice f n all, all n)
-
-by_word : (word : Terminal) (all choices : Option Code) → Full all → Full choices → Full (by_block word all choices)
-by_word (Mark mark.Seq) all choices first second = first
-by_word (Mark mark.If) all choices first second = second
-by_word word all choices first second = tt
 
 -- ---- processes
 
@@ -251,7 +201,7 @@ module _ (w : Surroundings) where
   placed_full (Guarded line g p) f k good have = λ label. tt
 
   all_placed_full : {part : Part} (cs : Components part) (f : Frame) (k : Known) → AreGood cs → HaveValues f.homes
-      → AllFull f (placed_choices w cs k)
+      → EachChoice (ChoiceFull f) (placed_choices w cs k)
   all_placed_full NoComponent f k good have = tt
   all_placed_full (Further cs c) f k good have = (
     all_placed_full cs f k good.0 have,
@@ -265,12 +215,12 @@ module _ (w : Surroundings) where
   block_full word cs s good have =
       let k = begun word s.known in
       let choices = with_ending (placed_choices w cs k) in
-      let all = ending_full s.frame (placed_choices w cs k) (all_placed_full cs s.frame k good have) in
-      by_word word (components_code w cs s)
+      let all = ending_holds (ChoiceFull s.frame) (placed_choices w cs k) (all_placed_full cs s.frame k good have) in
+      by_word Full tt word (components_code w cs s)
       (if_code s s.frame (ended word (after_components w.around word cs k)) (with_opening choices))
       (components_full cs s good have)
       (if_full s.frame have s (ended word (after_components w.around word cs k)) (with_opening choices)
-      (opening_full s.frame choices.tested choices.ending all.0 all.1))
+      (opening_holds (ChoiceFull s.frame) choices.tested choices.ending all.0 all.1))
 
   mutual
     pub process_full : (p : Process) → IsSequential p → HasTexts p → IsGood p
@@ -290,27 +240,20 @@ module _ (w : Surroundings) where
     body_full : (line : ℕ) (r : Replicator) (b : Body) → IsSequentialBody b → BodyHasTexts b → (s : Site)
         → HaveValues s.frame.homes → Full (body_code w line r b s)
     body_full line r (One kind c) seq texts s have =
-        let word = block_word kind in
-        let changed = changed_by_body w.around.signatures s.known.entries r (One kind c) in
-        let repeats = repeats_of (is_before line w.around.uncounted) s.known.entries (is_seq word) r in
-        let start = begun_body word changed repeats.happens s.known in
-        let after = after_body w.around line r (One kind c) s.known in
-        let base = value_or_zero s.known.entries r.base in
-        let count = value_or_zero s.known.entries r.count in
-        let inner = in_loop s start r.name (index_in repeats 0) in
-        let good = one_good word c seq texts in
+        let good = one_good (block_word kind) c seq texts in
         let f = with_home Nowhere s.frame in
         let outside = homes_more s.frame.homes Nowhere have tt in
-        let choice : ℕ → PlacedChoice = λ n. placed w c (turn_begun w.around word r.name c repeats start n) in
-        by_word word
-        (repeated_seq s changed after base (loop_code s inner after base count (component_code w c inner)) count)
-        (if_code s f after (with_ending (in_each_turn choice (times repeats))))
-        (repeated_full s changed after base (loop_code s inner after base count (component_code w c inner)) count
-        (loop_full s inner after base count (component_code w c inner)
-        (component_full c inner good (homes_more s.frame.homes _ have tt))))
-        (if_full f outside s after (with_ending (in_each_turn choice (times repeats)))
-        (ending_full f (in_each_turn choice (times repeats)) (turns_full choice f (times repeats)
-        (λ n. placed_full c f (turn_begun w.around word r.name c repeats start n) good outside))))
+        body_holds Full tt w line r kind c s (λ after changes. no_loop_full changes s after)
+        (λ start after base count.
+        let inner = loop_inside s start in
+        loop_full s inner after base count (component_code w c inner)
+        (component_full c inner good (homes_more s.frame.homes _ have tt)))
+        (λ after starts count.
+        let choice : ℕ → PlacedChoice = λ n. placed w c (starts n) in
+        let turns = in_each_turn choice count in
+        if_full f outside s after (with_ending turns)
+        (ending_holds (ChoiceFull f) turns
+        (turns_hold (ChoiceFull f) choice count (λ n. placed_full c f (starts n) good outside))))
 
     all_good : {part : Part} (word : Terminal) (cs : Components part) → AreSequential word cs → HaveTexts cs
         → AreGood cs

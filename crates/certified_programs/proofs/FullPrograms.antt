@@ -52,15 +52,15 @@ no_table_is_empty (item ∷ rest) code none sequential has_words is =
     let items = item ∷ rest in
     let found : FoundFrom items none Holds goes_on item rest [] code =
     find_main item rest none Holds goes_on code sequential has_words is tt in
-    let o = found.outside in
-    let p = found.procedure in
-    let w = where_called found.callees (around_in o) _ in
-    let site = in_main p (before_main o found.frame) in
+    let o = found.main.outside in
+    let p = found.main.procedure in
+    let w = where_called found.main.callees (around_in o) _ in
+    let site = in_main p (before_main o found.main.frame) in
     let last : List Piece = operates STOP_PROCESS ∷ [] in
-    let closed = closed_is last (process_code w p.body site) code found.is in
-    let texts = process_texts items none p.body (in_procedure o p) _ _ (to_body o p found.comes) in
+    let closed = closed_is last (process_code w p.body site) code found.main.is in
+    let texts = process_texts items none p.body (in_procedure o p) _ _ (to_body o p found.main.comes) in
     let full : Full (process_code w p.body site) =
-    process_full w p.body found.sequential texts site
-    (all_both IsFull found.frame.homes (link_homes p.head.formals) found.holds (links_full p.head.formals)) in
+    process_full w p.body found.main.sequential texts site
+    (all_both IsFull found.main.frame.homes (link_homes p.head.formals) found.holds (links_full p.head.formals)) in
     subst AreFull (sym closed.pieces)
     (all_both HasValues closed.first.pieces last (subst Full closed.is full) (tt, tt))

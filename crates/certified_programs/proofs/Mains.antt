@@ -1,5 +1,5 @@
 -- The code of main passes, from where nothing is known to where nothing goes on.
-use Rattle.std.proofs.Common.{◌≡◌, ℕ, ◌&&◌, pos, Bool, true, false, cond, List, [], ◌∷◌, ◌++◌, length, Some, None}
+use Rattle.std.proofs.Common.{◌≡◌, ℕ, pos, true, List, [], ◌∷◌, length, Some, None}
 use Rattle.std.proofs.Common.{refl, sym, subst, arith}
 use Rattle.std.specs.List.{AllByRecursion}
 use Rattle.std.proofs.lemmas.List.{append-nil}
@@ -13,14 +13,15 @@ use Rattle.usage_checks.specs.ItemRules.{BreaksNoRule, in_body}
 use Rattle.usage_checks.specs.Reaching.{to_body}
 use Rattle.usage_checks.proofs.ActionsGoWell.{at_below}
 use Rattle.code_pieces.specs.declared.operations.TheConstants.{STOP_PROCESS}
-use Rattle.code_pieces.specs.Pieces.{Code, Piece, constant, operates}
-use Rattle.code_pieces.specs.Laying.{apart, apart_from, at_row_behind, is_row, pars_of, words_taken}
+use Rattle.code_pieces.specs.Pieces.{Code, Piece, operates}
+use Rattle.code_pieces.specs.Laying.{apart, pars_of, words_taken}
 use Rattle.code_pieces.specs.LaidModule.{Says}
 use Rattle.code_pieces.proofs.AllOfPieces.{all_first}
 use Rattle.line_pieces.specs.Homes.{Block, Home}
 use Rattle.code_generator.specs.Processes.{Site, process_code}
 use Rattle.placed_code.specs.LaidCode.{LaidCode, laid_code}
 use Rattle.meant_lines.proofs.PartsStand.{code_stores_within, parts_stand}
+use Rattle.meant_code.proofs.RowsApart.{unfilled}
 use Rattle.meant_processes.specs.Places.{AllFit, FitsIn, ground, surroundings}
 use Rattle.meant_processes.proofs.CodeParts.{closed_is}
 use Rattle.meant_programs.proofs.MainPlaces.{main_placed, main_program, main_site}
@@ -36,20 +37,6 @@ use Rattle.certified_programs.specs.Mains.{SaysNothing, SettledMain}
 use Rattle.certified_programs.specs.Programs.{LinksHaveLengths}
 use Rattle.certified_programs.proofs.Foundations.{root_settings_are_roots, roots_are_founded}
 use Rattle.certified_programs.proofs.MainScope.{end_there, links_say, port_few, ports_have_lengths}
-
--- ---- rows that were kept apart
-
-filled_all : (P : Piece → Type 0) (b : Bool) (p : Piece) (rest : List Piece)
-    → AllByRecursion P (cond b (constant (pos 0) ∷ p ∷ []) (p ∷ []) ++ rest) → P p × AllByRecursion P rest
-filled_all P true p rest all = all.1
-filled_all P false p rest all = all
-
-unfilled : (P : Piece → Type 0) (at_row : Bool) (ps : List Piece) → AllByRecursion P (apart_from at_row ps)
-    → AllByRecursion P ps
-unfilled P at_row [] all = tt
-unfilled P at_row (p ∷ ps) all =
-    let both = filled_all P (at_row && is_row p) p (apart_from (at_row_behind p at_row) ps) all in
-    (both.0, unfilled P (at_row_behind p at_row) ps both.1)
 
 -- ---- homes
 
@@ -87,24 +74,16 @@ module _ (items : List ProgramItem) (code : Code) (links bytes : List ℕ) (none
     -- the scope with its links says nothing of words
     main_says : SaysNothing (root_scene ps code.labels links says.arrangement []) site.frame site.known.entries
     main_says =
-        let o = main.found.outside in
+        let o = main.found.main.outside in
         links_say (root_scene ps code.labels links says.arrangement []) o.known.entries
-        main.found.procedure.head.formals main.found.frame o.known.entries main.found.links main.scope
+        main.found.main.procedure.head.formals main.found.main.frame o.known.entries main.found.main.links main.scope
 
     main_at : IsPlaced coded site
     main_at =
         let placed = main_placed items c (words_taken ps) ps m code main.found in
         let top = main.found.top in
         record {
-          counted = placed.counted;
-          own = placed.own;
-          channels = placed.channels;
-          links = placed.links;
-          housed = placed.housed;
-          linked = placed.linked;
-          declared = placed.declared;
-          alone = placed.alone;
-          low = placed.low;
+          sited = placed.sited;
           outer = main.scope.outer;
           heads = none_before site.label site.frame.homes main_says.wordless;
           room = omega (arith, top);
@@ -113,15 +92,15 @@ module _ (items : List ProgramItem) (code : Code) (links bytes : List ℕ) (none
 
     has_ends : (n : ℕ) (port : Port) → item_at n coded.program.ports ≡ Some (Some port) → HasEnd coded port
     has_ends n port at =
-        let long = ports_have_lengths links main.found.names main.found.procedure.head.formals n port
-        (lengths main.found.procedure main.last) at in
-        let less = at_below n _ _ (main_at.channels n port at) in
+        let long = ports_have_lengths links main.found.main.names main.found.main.procedure.head.formals n port
+        (lengths main.found.main.procedure main.last) at in
+        let less = at_below n _ _ (main_at.sited.channels n port at) in
         let shaped = shape_long site.known.entries in
         record {
           length = long;
           end = end_there ps code.labels links says.arrangement alone port
-              (port_few coded.program n port _ at (main_at.channels n port at) (omega (arith, less, shaped))
-              main_at.linked)
+              (port_few coded.program n port _ at (main_at.sited.channels n port at) (omega (arith, less, shaped))
+              main_at.sited.linked)
               long;
         }
 
@@ -139,7 +118,7 @@ module _ (items : List ProgramItem) (code : Code) (links bytes : List ℕ) (none
           schedules = roots_may_schedule coded.passage.setting ps code.labels links says.arrangement root;
           founded = roots_are_founded ps code.labels links bytes says [] alone;
           ends = has_ends;
-          calls = record { callees = main.found.callees; count = length main.found.callees; is = refl };
+          calls = record { callees = main.found.main.callees; count = length main.found.main.callees; is = refl };
         }
 
     -- all pieces of the whole stand on it
@@ -152,14 +131,14 @@ module _ (items : List ProgramItem) (code : Code) (links bytes : List ℕ) (none
     pub main_passes : PassOn (root_passage ps code.labels links says.arrangement) [] (Some nothing_told) code.pieces
         None
     main_passes =
-        let o = main.found.outside in
-        let p = main.found.procedure in
+        let o = main.found.main.outside in
+        let p = main.found.main.procedure in
         let last : List Piece = operates STOP_PROCESS ∷ [] in
-        let closed = closed_is last (process_code (surroundings coded.program) p.body site) code main.found.is in
+        let closed = closed_is last (process_code (surroundings coded.program) p.body site) code main.found.main.is in
         let fits = all_first (FitsIn coded.program) closed.first.pieces last
         (subst (AllFit coded.program) closed.pieces all_fit) in
-        let passes = processes_pass coded p.body in_root main.found.sequential main.found.has_words
+        let passes = processes_pass coded p.body in_root main.found.main.sequential main.found.main.has_words
         (length (in_body p o.known).entries) site [] nothing_told closed.first
-        (to_body o p main.found.comes) main_at closed.is fits (main_says.holds nothing_told.frame) in
+        (to_body o p main.found.main.comes) main_at closed.is fits (main_says.holds nothing_told.frame) in
         subst (λ (qs : List Piece). PassOn coded.passage [] (Some nothing_told) qs None)
         (sym closed.pieces) (both passes.passes stops)

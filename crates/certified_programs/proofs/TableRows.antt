@@ -9,12 +9,13 @@ use Rattle.std.proofs.lemmas.Int.{ints}
 use Rattle.small_laws.proofs.Comparisons.{le-int_le, lt-int_le}
 use Rattle.module_format.specs.declared.rows.TableRow.{TableRow}
 use Rattle.rulings.specs.Reach.{lie_in_row}
-use Rattle.code_pieces.specs.Pieces.{Piece, Direct, Jump, JumpUnless, LoopBack, Distance, StartBranch, Select}
-use Rattle.code_pieces.specs.Pieces.{TableAddress, Row, Place, Within, Par}
+use Rattle.code_pieces.specs.Pieces.{Piece}
+use Rattle.code_pieces.specs.Pieces.{TableAddress}
 use Rattle.code_pieces.specs.Laying.{are_same, offset_in, with_table, tables_before}
 use Rattle.code_pieces.specs.Tables.{has_table, table_bytes, constants_of, lowest, highest, table_rows_from}
 use Rattle.code_pieces.proofs.TableLaws.{pointwise_same, with_known, with_new}
 use Rattle.placed_code.proofs.PiecesLie.{length-table}
+use Rattle.certified_modules.proofs.TablesPlaced.{read_keeps}
 
 -- ---- tables among others
 
@@ -62,40 +63,12 @@ stays_with other values ts there = elim (cases_Bool (has_table ts other)) [
       ∙ there_before values ts (other ∷ []) there
 ]
 
--- and while further pieces are read
-stays_there : (values : List ℤ) (ts : List (List ℤ)) (ps : List Piece) → has_table ts values ≡ true
-    → has_table (tables_before ts ps) values ≡ true
-stays_there values ts [] there = there
-stays_there values ts (TableAddress other ∷ ps) there =
-    stays_there values (with_table other ts) ps (stays_with other values ts there)
-stays_there values ts (Direct f e ∷ ps) there = stays_there values ts ps there
-stays_there values ts (Jump l ∷ ps) there = stays_there values ts ps there
-stays_there values ts (JumpUnless l ∷ ps) there = stays_there values ts ps there
-stays_there values ts (LoopBack head behind ∷ ps) there = stays_there values ts ps there
-stays_there values ts (Distance from to ∷ ps) there = stays_there values ts ps there
-stays_there values ts (StartBranch entry successor ∷ ps) there = stays_there values ts ps there
-stays_there values ts (Select targets ∷ ps) there = stays_there values ts ps there
-stays_there values ts (Row l entries ∷ ps) there = stays_there values ts ps there
-stays_there values ts (Place l ∷ ps) there = stays_there values ts ps there
-stays_there values ts (Within workspace ∷ ps) there = stays_there values ts ps there
-stays_there values ts (Par par ∷ ps) there = stays_there values ts ps there
-
 -- a table that a piece reads is among those of the constants
 pub read_there : (ts : List (List ℤ)) (before rest : List Piece) (values : List ℤ)
     → has_table (tables_before ts (before ++ TableAddress values ∷ rest)) values ≡ true
-read_there ts [] rest values = stays_there values (with_table values ts) rest (added_there values ts)
-read_there ts (TableAddress other ∷ before) rest values = read_there (with_table other ts) before rest values
-read_there ts (Direct f e ∷ before) rest values = read_there ts before rest values
-read_there ts (Jump l ∷ before) rest values = read_there ts before rest values
-read_there ts (JumpUnless l ∷ before) rest values = read_there ts before rest values
-read_there ts (LoopBack head behind ∷ before) rest values = read_there ts before rest values
-read_there ts (Distance from to ∷ before) rest values = read_there ts before rest values
-read_there ts (StartBranch entry successor ∷ before) rest values = read_there ts before rest values
-read_there ts (Select targets ∷ before) rest values = read_there ts before rest values
-read_there ts (Row l entries ∷ before) rest values = read_there ts before rest values
-read_there ts (Place l ∷ before) rest values = read_there ts before rest values
-read_there ts (Within workspace ∷ before) rest values = read_there ts before rest values
-read_there ts (Par par ∷ before) rest values = read_there ts before rest values
+read_there ts before rest values =
+    read_keeps (λ us. has_table us values ≡ true) (λ other us. stays_with other values us) values (added_there values)
+    ts before rest
 
 -- ---- where it lies
 

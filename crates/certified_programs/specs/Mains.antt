@@ -29,8 +29,8 @@ pub record SaysNothing (g : Scene) (f : Frame) (es : List Entry) : Type 0 where
 pub record SettledMain (items : List ProgramItem) (footing : Footing) (words : ℕ) (whole : List Piece) (m : Memory)
     (g : Scene) (code : Code) : Type 0 where
   pub found : FoundMain items footing words whole m code
-  pub last : slice_get items (length items - 1) ≡ Some (GlobalProcedure found.procedure)
-  pub scope : SaysNothing g found.frame found.outside.known.entries
+  pub last : slice_get items (length items - 1) ≡ Some (GlobalProcedure found.main.procedure)
+  pub scope : SaysNothing g found.main.frame found.main.outside.known.entries
 
 -- Main of a sequential program that breaks no rule is found so, in the scene of a module that has its tables.
 abbrev pub MainIsSettled : Type 0

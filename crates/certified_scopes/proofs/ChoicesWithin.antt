@@ -101,6 +101,18 @@ module _ (a : Around) where
     keeps_here : KeepsIn a c
     keeps_here = one_keeps a (Mark mark.If) c seq
 
+    -- a choice that is in sequence, at such a place
+    lies_at : {x : Known} {es : List Entry} → IsBetween k x es
+        → LieWithinEnds x (after_component a (Mark mark.If) c (record { entries = es; blocks = x.blocks }))
+        (outermost (length k.entries)
+        (inside a (process_of c) (entered c (record { entries = es; blocks = x.blocks }))).entries)
+    lies_at {x} {es} here = choice_lies c k x es made keeps_here here
+
+    begins_at : {x : Known} {es : List Entry} → IsBetween k x es
+        → BeginsFurther c es (length k.entries)
+        (after_component a (Mark mark.If) c (record { entries = es; blocks = x.blocks })).entries
+    begins_at {x} {es} here = choice_begins c k x es made keeps_here here
+
     module _ (cs : Components part) (all : AreSequential (Mark mark.If) cs) where
       abbrev before_choice : Known
       before_choice = after_components a (Mark mark.If) cs (begin k)
@@ -109,14 +121,6 @@ module _ (a : Around) where
       choice_between =
           between k before_choice (λ es. es) (λ es. omega arith) (λ es. all_outermost (length es) es refl)
           (choices_keep a cs k made (all_keep a (Mark mark.If) cs all))
-
-      each_choice : LieWithinEnds before_choice (after_component a (Mark mark.If) c before_choice)
-          (outermost (length k.entries) (inside a (process_of c) (entered c before_choice)).entries)
-      each_choice = choice_lies c k before_choice before_choice.entries made keeps_here choice_between
-
-      further_choice : BeginsFurther c before_choice.entries (length k.entries)
-          (after_component a (Mark mark.If) c before_choice).entries
-      further_choice = choice_begins c k before_choice before_choice.entries made keeps_here choice_between
 
     module _ (name : List ℕ) (repeats : Repeats) (n : ℕ) where
       abbrev before_turn : Known
@@ -131,22 +135,14 @@ module _ (a : Around) where
           between k before_turn (λ es. e ∷ es) (λ es. omega arith) (λ es. all_but_one (length es) e es refl)
           (turns_keep a c name repeats k n made keeps_here)
 
-      each_turn : LieWithinEnds before_turn (after_component a (Mark mark.If) c in_turn)
-          (outermost (length k.entries) (inside a (process_of c) (entered c in_turn)).entries)
-      each_turn = choice_lies c k before_turn in_turn.entries made keeps_here turn_between
-
-      further_turn : BeginsFurther c in_turn.entries (length k.entries)
-          (after_component a (Mark mark.If) c in_turn).entries
-      further_turn = choice_begins c k before_turn in_turn.entries made keeps_here turn_between
-
 pub choices_lie_within : ChoicesLieWithin
 choices_lie_within = record {
-  choices = λ {part} a cs c k made seq. each_choice a c k made seq.1 cs seq.0;
-  turns = λ {part} a c name repeats k n made seq. each_turn a c k made seq name repeats n;
+  choices = λ {part} a cs c k made seq. lies_at a c k made seq.1 (choice_between a c k made seq.1 cs seq.0);
+  turns = λ {part} a c name repeats k n made seq. lies_at a c k made seq (turn_between a c k made seq name repeats n);
 }
 
 pub choices_begin_further : ChoicesBeginFurther
 choices_begin_further = record {
-  choices = λ {part} a cs c k made seq. further_choice a c k made seq.1 cs seq.0;
-  turns = λ {part} a c name repeats k n made seq. further_turn a c k made seq name repeats n;
+  choices = λ {part} a cs c k made seq. begins_at a c k made seq.1 (choice_between a c k made seq.1 cs seq.0);
+  turns = λ {part} a c name repeats k n made seq. begins_at a c k made seq (turn_between a c k made seq name repeats n);
 }

@@ -1,7 +1,7 @@
 -- What is known of the names around a block where a choice of it was not taken.
 use Rattle.std.proofs.Common.{◌≡◌, ℕ, suc, Bool, true, false, cond, List, [], ◌∷◌, length, Option, Some, None}
 use Rattle.std.proofs.Common.{refl, sym, ap, ◌∙◌, arith, nat_eq, nat_lt}
-use Rattle.std.proofs.lemmas.Bool.{ltb-false}
+use Rattle.std.proofs.lemmas.Bool.{cond_both, ltb-false}
 use Rattle.std.proofs.lemmas.Bool.Decides.{nat_tests}
 use Rattle.scalar_ranges.specs.Entries.{Entry, number_in}
 use Rattle.scalar_ranges.specs.Moves.{outermost, at_number, with_meaning, excluded_at, excluded_by}
@@ -13,12 +13,9 @@ use Rattle.certified_scopes.specs.Within.{ExcludedIsNarrowed}
 
 at_long : {A : Type 0} (f : A → A) (n : ℕ) (xs : List A) → length (at_number f n xs) ≡ length xs
 at_long f n [] = refl
-at_long f n (x ∷ xs) = by_number (nat_eq (length xs) n) (at_long f n xs)
-  where
-    by_number : (t : Bool) → length (at_number f n xs) ≡ length xs
-        → length (cond t (f x ∷ xs) (x ∷ at_number f n xs)) ≡ suc (length xs)
-    by_number true long = refl
-    by_number false long = ap suc long
+at_long f n (x ∷ xs) =
+    cond_both (nat_eq (length xs) n) (f x ∷ xs) (x ∷ at_number f n xs) (λ ys. length ys ≡ suc (length xs)) (λ t. refl)
+    (λ t. ap suc (at_long f n xs))
 
 -- the outermost of a list in which one is changed
 outer_by : {A : Type 0} (inside here : Bool) (f : A → A) (n count : ℕ) (x : A) (xs : List A)

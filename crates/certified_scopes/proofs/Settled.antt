@@ -100,7 +100,7 @@ value_fits type v is =
 -- ---- further words
 
 module _ (g : Scene) (top more : ℕ) (low : top ≤ more) where
-  housed_more : (o : Option Home) (k : Meaning) → IsHousedThere g top o k → IsHousedThere g more o k
+  pub housed_more : (o : Option Home) (k : Meaning) → IsHousedThere g top o k → IsHousedThere g more o k
   housed_more None k housed = housed
   housed_more (Some h) (Constant type None) housed = housed
   housed_more (Some h) (Constant type (Some v)) housed = housed
@@ -131,7 +131,7 @@ module _ (g : Scene) (top more : ℕ) (low : top ≤ more) where
   housed_more (Some (Passed w)) (Array kind type size range) housed = housed
 
 -- homes behind leave the words of those before
-turn_before : (hs more : List Home) (es : List Entry) (top : ℕ) → length es ≤ length hs → AreInTurn hs es top
+pub turn_before : (hs more : List Home) (es : List Entry) (top : ℕ) → length es ≤ length hs → AreInTurn hs es top
     → AreInTurn (hs ++ more) es top
 turn_before hs more [] top few turn = tt
 turn_before hs more (e ∷ es) top few turn =

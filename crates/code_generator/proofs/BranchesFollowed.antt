@@ -1,10 +1,8 @@
 -- The branches of an ALT are gone over one after the other.
-use Rattle.std.proofs.Common.{◌≡◌, ℕ, suc, ◌+◌, ◌<◌, ◌≤◌, Bool, true, false, cond, List, [], ◌∷◌, ◌++◌, length, map}
-use Rattle.std.proofs.Common.{take, fold, arith, Option, get_or, None, Result, Ok, Err, IfOk, refl, sym, ap, subst}
+use Rattle.std.proofs.Common.{◌≡◌, ℕ, suc, ◌+◌, ◌<◌, ◌≤◌, false, List, [], ◌∷◌, ◌++◌, length, map}
+use Rattle.std.proofs.Common.{take, fold, arith, Option, get_or, Result, Ok, Err, IfOk, refl, sym, ap, subst}
 use Rattle.std.proofs.Common.{◌∙◌, add-one}
-use Rattle.std.proofs.Math.Seq.{take-append_seam}
 use Rattle.std.proofs.lemmas.List.{append_assoc, length-map, length-take, take_all}
-use Rattle.std.specs.Global.{Vec}
 use Rattle.occam_layout.specs.declared.mark.Mark.TheVariants as mark
 use Rattle.occam_parser.specs.Terminals.{Mark}
 use Rattle.occam_parser.specs.Lines.{Replicator, Guard}
@@ -16,14 +14,12 @@ use Rattle.scalar_ranges.specs.Entries.{Meaning}
 use Rattle.scalar_ranges.specs.Moves.{Known, begin, next, end}
 use Rattle.scalar_ranges.specs.Scopes.{known_of}
 use Rattle.program_uses.specs.Actions.{Around, is_before}
-use Rattle.program_uses.specs.Changes.{changed_by_component}
 use Rattle.program_uses.specs.Declaring.{add}
-use Rattle.program_uses.specs.Indices.{Repeats, repeats_of, seen_repeats, index_in, index_meaning, turn_by_turn}
+use Rattle.program_uses.specs.Indices.{Repeats, repeats_of, seen_repeats, index_in, turn_by_turn}
 use Rattle.program_uses.proofs.Adding.{taken_one}
-use Rattle.usage_checks.specs.AfterProcesses.{inside, repeated, begun_body, after_component, after_components}
+use Rattle.usage_checks.specs.AfterProcesses.{inside, after_component, after_components}
 use Rattle.usage_checks.specs.NameRules.{with_entries}
-use Rattle.usage_checks.proofs.RangesStay.{covers_itself, turns_turned, component_stays}
-use Rattle.code_pieces.specs.declared.piece.RowEntry.{RowEntry}
+use Rattle.usage_checks.proofs.RangesStay.{component_stays}
 use Rattle.code_pieces.specs.Pieces.{Jump, closed_by}
 use Rattle.code_generator.specs.declared.alternatives.Replication.{Replication}
 use Rattle.code_generator.specs.declared.calling.Surroundings as calling
@@ -38,12 +34,12 @@ use Rattle.code_generator.specs.Alternations.{FollowsAlt, FollowsRepeatedAlt}
 use Rattle.code_generator.specs.CallViews.{surroundings_of}
 use Rattle.line_pieces.specs.Declarations.{Frame, with_home}
 use Rattle.line_pieces.specs.FrameViews.{frame_seen}
-use Rattle.line_pieces.specs.HomeViews.{home_seen, homes_seen}
+use Rattle.line_pieces.specs.HomeViews.{homes_seen}
 use Rattle.line_pieces.specs.Homes.{Nowhere}
 use Rattle.code_generator.specs.Processes.{Site, at_place, row_of, process_code, turned, times}
 use Rattle.code_generator.specs.Written.{site_of, Appends, WritesProcess}
 use Rattle.code_generator.proofs.PartsWritten.{appends_before, appends_closed, appends_then, site_after}
-use Rattle.code_generator.proofs.LoopsWritten.{ended_block}
+use Rattle.code_generator.proofs.TurnsEnd.{frame_left, turns_ended}
 
 -- ---- one after the other
 
@@ -193,33 +189,13 @@ some_next around exits x c n m e {s} {t} {w} scope means enters leads before one
 
 -- ---- what is known after the turns
 
--- Where a branch does not happen all is then as it was.
-nothing_happens : (a : Around) (name : List ℕ) (c : Component Branches) (repeats : Repeats) (k : Known)
-    → repeats.sequential ≡ false
-    → end (end (turn_by_turn (turned a (Mark mark.Alt) name c repeats) repeats.turns.count (begin (begin k)))) ≡ k
-nothing_happens a name c repeats k sequential =
-    let es = add name (index_meaning false None) k.entries in
-    let all = changed_by_component a.signatures es c in
-    let turns = turn_by_turn (turned a (Mark mark.Alt) name c repeats) repeats.turns.count (begin (begin k)) in
-    let h = turns_turned a all (Mark mark.Alt) c name repeats [] k.entries (begin k) repeats.turns.count tt tt
-    sequential refl (component_stays a all (Mark mark.Alt) c tt es (covers_itself all)) in
-    ap end (ended_block turns (record { start = h.start; ends = h.ends }) (begin k).blocks
-    (ap (λ (x : Known). x.blocks) h.is))
-
 turns_end : (a : Around) (line : ℕ) (r : Replicator) (c : Component Branches) (k : Known)
     → (let repeats = repeats_of (is_before line a.uncounted) k.entries false r in
     end (turn_by_turn (turned a (Mark mark.Alt) r.name c repeats) (times repeats) (begin k)) ≡ after_turns a line r c k)
-turns_end a line r c k = by_happens (repeats_of (is_before line a.uncounted) k.entries false r).happens
-  where
-    repeats : Repeats
-    repeats = repeats_of (is_before line a.uncounted) k.entries false r
-
-    by_happens : (happens : Bool)
-        → end (turn_by_turn (turned a (Mark mark.Alt) r.name c repeats) (cond happens repeats.turns.count 0) (begin k))
-        ≡ repeated happens (turn_by_turn (turned a (Mark mark.Alt) r.name c repeats) repeats.turns.count
-        (begun_body (Mark mark.Alt) [] happens k))
-    by_happens true = refl
-    by_happens false = sym (nothing_happens a r.name c repeats k refl)
+turns_end a line r c k =
+    let repeats = repeats_of (is_before line a.uncounted) k.entries false r in
+    turns_ended a (Mark mark.Alt) r.name c repeats [] k tt tt refl (λ all. component_stays a all (Mark mark.Alt) c tt)
+    (λ m. refl) repeats.happens
 
 -- ---- an ALT under a replicator
 
@@ -239,16 +215,9 @@ pub follows_repeated : (around : calling.Surroundings) (exits : ℕ → Exits) (
 follows_repeated around exits line names r c x {s} {t} {u} {within} {w} left ended name is count stays begun named turns
     long homes top hidden ends known frame =
     let a = (surroundings_of around).around in
-    let z = frame_seen t.frame in
     let after = λ (n : List ℕ) (q : Repeats) (m : ℕ) (k : Known).
     end (turn_by_turn (turned a (Mark mark.Alt) n c q) m k) in
-    let long_seen : names ≡ length z.homes = long ∙ sym (length-map t.frame.homes.items home_seen) in
-    let grown : frame_seen within.frame ≡ with_home Nowhere z = turns.frame ∙ named in
-    let kept : homes_seen left.homes.items ≡ z.homes =
-    homes ∙ (λ i. take (long_seen i) (grown i).homes) ∙ take-append_seam z.homes (Nowhere ∷ []) in
-    let outer : left.outer.items ≡ z.outer =
-    ap (λ (v : Vec RowEntry). v.items) hidden ∙ ap (λ (f : Frame). f.outer) grown in
-    let whole : frame_seen left ≡ z = λ i. record { homes = kept i; top = top i; outer = outer i } in
+    let whole = frame_left names t.frame within.frame left long homes top hidden (turns.frame ∙ named) in
     record {
       known = known ∙ ends ∙ ap end turns.known
           ∙ (λ i. after (name i) (seen_repeats x.repeats) (count i) (begun i))

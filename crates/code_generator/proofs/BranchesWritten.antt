@@ -1,9 +1,7 @@
 -- A PAR is written component by component, and its blocks are left.
-use Rattle.std.proofs.Common.{◌≡◌, ℕ, ◌+◌, ◌<◌, ◌≤◌, Bool, true, false, List, [], ◌∷◌, length, map, take, get_or}
-use Rattle.std.proofs.Common.{None, refl, sym, ap, subst, ◌∙◌, add-one}
-use Rattle.std.proofs.Math.Seq.{take-append_seam}
-use Rattle.std.proofs.lemmas.List.{length-map, take_all}
-use Rattle.std.specs.Global.{Vec}
+use Rattle.std.proofs.Common.{◌≡◌, ℕ, ◌+◌, ◌<◌, ◌≤◌, Bool, true, false, List, [], length, map, take, get_or}
+use Rattle.std.proofs.Common.{refl, sym, ap, subst, ◌∙◌, add-one}
+use Rattle.std.proofs.lemmas.List.{take_all}
 use Rattle.occam_layout.specs.declared.mark.Mark.TheVariants as mark
 use Rattle.occam_parser.specs.Terminals.{Mark}
 use Rattle.occam_parser.specs.Lines.{Replicator}
@@ -12,17 +10,16 @@ use Rattle.occam_parser.specs.BlockViews.{all_of}
 use Rattle.occam_parser.proofs.SeenBlocks.{all_push}
 use Rattle.scalar_ranges.specs.declared.scope.Scope as code_scope
 use Rattle.scalar_ranges.specs.Entries.{Meaning}
-use Rattle.scalar_ranges.specs.Moves.{Known, begin, begin_par, next_component, end}
+use Rattle.scalar_ranges.specs.Moves.{Known, begin_par, next_component, end}
 use Rattle.scalar_ranges.specs.Scopes.{known_of}
 use Rattle.program_uses.specs.Actions.{Around, is_before}
-use Rattle.program_uses.specs.Changes.{changed_by, changed_by_component}
+use Rattle.program_uses.specs.Changes.{changed_by}
 use Rattle.program_uses.specs.Declaring.{add}
-use Rattle.program_uses.specs.Indices.{Repeats, repeats_of, index_in, index_meaning, turn_by_turn}
+use Rattle.program_uses.specs.Indices.{Repeats, repeats_of, index_in, turn_by_turn}
 use Rattle.program_uses.proofs.Adding.{taken_one}
 use Rattle.usage_checks.specs.AfterProcesses.{inside, after_component, after_components, begun_body, repeated}
 use Rattle.usage_checks.specs.NameRules.{with_entries}
-use Rattle.usage_checks.proofs.RangesStay.{covers_itself, turns_turned, component_stays}
-use Rattle.code_pieces.specs.declared.piece.RowEntry.{RowEntry}
+use Rattle.usage_checks.proofs.RangesStay.{component_stays}
 use Rattle.code_generator.specs.declared.calling.Surroundings as calling
 use Rattle.line_pieces.specs.declared.frame.Frame as code_frame
 use Rattle.code_generator.specs.declared.parallel.Outside.{Outside}
@@ -30,13 +27,13 @@ use Rattle.code_generator.specs.declared.processes.ProcessWriter.{ProcessWriter}
 use Rattle.code_generator.specs.CallViews.{surroundings_of}
 use Rattle.line_pieces.specs.Declarations.{Frame, with_home}
 use Rattle.line_pieces.specs.FrameViews.{frame_seen}
-use Rattle.line_pieces.specs.HomeViews.{home_seen, homes_seen}
+use Rattle.line_pieces.specs.HomeViews.{homes_seen}
 use Rattle.line_pieces.specs.Homes.{Nowhere}
 use Rattle.code_generator.specs.Processes.{turned}
 use Rattle.code_generator.specs.Written.{WritesProcess}
 use Rattle.code_generator.specs.Branches.{IsKept, EntersBranch, LeavesBranch, WritesComponent, WritesSome, WritesPar}
 use Rattle.code_generator.specs.Branches.{WritesTurns, WritesRepeatedPar}
-use Rattle.code_generator.proofs.LoopsWritten.{ended_block}
+use Rattle.code_generator.proofs.TurnsEnd.{frame_left, nothing_happens}
 
 -- ---- a component
 
@@ -112,25 +109,21 @@ par_turns_next around name repeats c n m {s} {t} {w} scope means enters first on
       frame = one.frame ∙ first.frame;
     })
 
--- Where a component does not happen all is then as it was.
-nothing_happens : (a : Around) (name : List ℕ) (c : Component Processes) (repeats : Repeats) (k : Known)
-    → repeats.sequential ≡ false
-    → end (end (turn_by_turn (turned a (Mark mark.Par) name c repeats) repeats.turns.count (begin_par (begin k)))) ≡ k
-nothing_happens a name c repeats k sequential =
-    let es = add name (index_meaning false None) k.entries in
-    let all = changed_by_component a.signatures es c in
-    let turns = turn_by_turn (turned a (Mark mark.Par) name c repeats) repeats.turns.count (begin_par (begin k)) in
-    let h = turns_turned a all (Mark mark.Par) c name repeats [] k.entries (begin k) repeats.turns.count tt tt
-    sequential refl (component_stays a all (Mark mark.Par) c tt es (covers_itself all)) in
-    ap end (ended_block turns (record { start = h.start; ends = h.ends }) (begin k).blocks
-    (ap (λ (x : Known). x.blocks) h.is))
-
 -- what is known after the turns, by whether the component happens
 abbrev pub ended_by : Around → List ℕ → Component Processes → Repeats → Bool → Known → Known
 ended_by a name c repeats happens k =
     repeated happens
     (turn_by_turn (turned a (Mark mark.Par) name c repeats) repeats.turns.count
     (begun_body (Mark mark.Par) [] happens k))
+
+-- what is known where this is so
+ended_so : (a : Around) (line : ℕ) (r : Replicator) (p : Process) (repeats : Repeats) (k : Known) (happens : Bool)
+    → repeats ≡ repeats_of (is_before line a.uncounted) k.entries false r → repeats.happens ≡ happens
+    → (let counted = repeats_of (is_before line a.uncounted) k.entries false r in
+    ended_by a r.name (Plain p) counted counted.happens k ≡ ended_by a r.name (Plain p) counted happens k)
+ended_so a line r p repeats k happens is so =
+    let counted = repeats_of (is_before line a.uncounted) k.entries false r in
+    ap (λ h. ended_by a r.name (Plain p) counted h k) (ap (λ (x : Repeats). x.happens) (sym is) ∙ so)
 
 pub writes_no_turns : (around : calling.Surroundings) (line : ℕ) (r : Replicator) (p : Process) (repeats : Repeats)
     (s : ProcessWriter)
@@ -140,11 +133,11 @@ writes_no_turns around line r p repeats s is never =
     let a = (surroundings_of around).around in
     let k = known_of s.scope in
     let counted = repeats_of (is_before line a.uncounted) k.entries false r in
-    let fixed : counted.happens ≡ false = ap (λ (x : Repeats). x.happens) (sym is) ∙ never in
     record {
       code = tt;
-      known = sym (ap (λ h. ended_by a r.name (Plain p) counted h k) fixed
-          ∙ nothing_happens a r.name (Plain p) counted k refl);
+      known = sym (ended_so a line r p repeats k false is never
+          ∙ nothing_happens a (Mark mark.Par) r.name (Plain p) counted [] k tt tt refl
+          (λ all. component_stays a all (Mark mark.Par) (Plain p) tt));
       frame = refl;
     }
 
@@ -161,21 +154,11 @@ pub writes_repeated_par : (around : calling.Surroundings) (line names : ℕ) (r 
 writes_repeated_par around line names r p repeats {s} {begun} {within} {w} left ended is always begins named x long
     homes top hidden ends kept =
     let a = (surroundings_of around).around in
-    let k = known_of s.scope in
-    let counted = repeats_of (is_before line a.uncounted) k.entries false r in
-    let fixed : counted.happens ≡ true = ap (λ (x : Repeats). x.happens) (sym is) ∙ always in
-    let long_seen : names ≡ length (frame_seen s.frame).homes = long ∙ sym (length-map s.frame.homes.items home_seen) in
-    let grown : frame_seen within.frame ≡ with_home Nowhere (frame_seen s.frame) = x.frame ∙ named in
-    let known_homes : homes_seen left.homes.items ≡ homes_seen s.frame.homes.items =
-    homes ∙ (λ i. take (long_seen i) (grown i).homes)
-    ∙ take-append_seam (homes_seen s.frame.homes.items) (Nowhere ∷ []) in
-    let outer : left.outer.items ≡ s.frame.outer.items =
-    ap (λ (v : Vec RowEntry). v.items) hidden ∙ ap (λ (f : Frame). f.outer) grown in
     record {
       code = tt;
       known = kept.known ∙ ends
           ∙ ap end (x.known
           ∙ (λ i. turn_by_turn (turned a (Mark mark.Par) r.name (Plain p) (is i)) (is i).turns.count (begins i)))
-          ∙ sym (ap (λ h. ended_by a r.name (Plain p) counted h k) fixed);
-      frame = kept.frame ∙ (λ i. record { homes = known_homes i; top = top i; outer = outer i });
+          ∙ sym (ended_so a line r p repeats (known_of s.scope) true is always);
+      frame = kept.frame ∙ frame_left names s.frame within.frame left long homes top hidden (x.frame ∙ named);
     }

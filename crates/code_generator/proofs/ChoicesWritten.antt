@@ -226,87 +226,97 @@ opens_ended xs before first opened last is split holds skips =
 
 -- ---- a choice
 
+-- where other names are known, and other labels are free
+pub placed_at : (s : ProcessWriter) {k : Known} {label free : ℕ} (scope : code_scope.Scope) → known_of scope ≡ k
+    → free ≡ label → site_of (record s { scope = scope; label = free }) ≡ at_place k label (site_of s)
+placed_at s scope known is = λ i. record { frame = frame_seen s.frame; known = known i; label = is i }
+
 -- without its test
-pub writes_taken : (around : calling.Surroundings) (line : ℕ) (e : Expression) (p : Process) (s t : ProcessWriter)
-    (inner after : code_scope.Scope) → known_of inner ≡ chosen e (known_of s.scope)
-    → WritesProcess (record s { scope = inner }) t around p → known_of after ≡ next (known_of t.scope)
-    → WritesAs s (record t { scope = after }) around taken_code (Chosen line e p)
-writes_taken around line e p s t inner after narrowed x ends =
+pub writes_taken : (around : calling.Surroundings) (x : Choice) (s t : ProcessWriter) (inner after : code_scope.Scope)
+    → known_of inner ≡ chosen (expression_of x.condition) (known_of s.scope)
+    → WritesProcess (record s { scope = inner }) t around (process_of x.process)
+    → known_of after ≡ next (known_of t.scope)
+    → WritesAs s (record t { scope = after }) around taken_code (choice_of x)
+writes_taken around x s t inner after narrowed written ends =
     let here = surroundings_of around in
-    let a = here.around in
-    record {
+    let p = process_of x.process in
+    subst (λ c. WritesAs s (record t { scope = after }) around taken_code c) (choice_seen x) (record {
       code = subst (λ k. Appends s.listing t.listing t.label (process_code here p (at_place k s.label (site_of s))))
-          narrowed x.code;
-      known = ends ∙ ap next (x.known ∙ ap (inside a p) narrowed);
-      frame = x.frame;
-    }
+          narrowed written.code;
+      known = ends ∙ ap next (written.known ∙ ap (inside here.around p) narrowed);
+      frame = written.frame;
+    })
 
 -- What is behind the process of a choice that was tested.
-pub record TakenLeft (around : calling.Surroundings) (line : ℕ) (e : Expression) (p : Process)
-    (s tested within : ProcessWriter) : Type 0 where
-  pub code : Appends tested.listing within.listing within.label
-      (choice_as taken_code (surroundings_of around) (Chosen line e p)
-      (at_place (known_of s.scope) (s.label + 1) (site_of s)))
-  pub known : known_of within.scope
-      ≡ after_component (surroundings_of around).around (Mark mark.If) (Chosen line e p) (known_of s.scope)
-  pub frame : frame_seen within.frame ≡ frame_seen s.frame
+pub record TakenLeft (around : calling.Surroundings) (c : Component Choices) (s tested within : ProcessWriter) : Type 0
+  where
+    pub code : Appends tested.listing within.listing within.label (choice_as taken_code (surroundings_of around) c
+        (at_place (known_of s.scope) (s.label + 1) (site_of s)))
+    pub known : known_of within.scope
+        ≡ after_component (surroundings_of around).around (Mark mark.If) c (known_of s.scope)
+    pub frame : frame_seen within.frame ≡ frame_seen s.frame
 
-pub taken_left : (around : calling.Surroundings) (line : ℕ) (e : Expression) (p : Process)
-    (s tested within : ProcessWriter) → site_of tested ≡ at_place (known_of s.scope) (s.label + 1) (site_of s)
-    → WritesAs tested within around taken_code (Chosen line e p) → TakenLeft around line e p s tested within
-taken_left around line e p s tested within place x = record {
+pub taken_left : (around : calling.Surroundings) (c : Component Choices) (s tested within : ProcessWriter)
+    → site_of tested ≡ at_place (known_of s.scope) (s.label + 1) (site_of s)
+    → WritesAs tested within around taken_code c → TakenLeft around c s tested within
+taken_left around c s tested within place x = record {
   code = subst (λ (y : Site). Appends tested.listing within.listing within.label
-      (choice_as taken_code (surroundings_of around) (Chosen line e p) y)) place x.code;
-  known = x.known ∙ ap (λ (y : Site).
-      after_component (surroundings_of around).around (Mark mark.If) (Chosen line e p) y.known) place;
+      (choice_as taken_code (surroundings_of around) c y)) place x.code;
+  known = x.known
+      ∙ ap (λ (y : Site). after_component (surroundings_of around).around (Mark mark.If) c y.known) place;
   frame = x.frame ∙ ap (λ (y : Site). y.frame) place;
 }
 
 -- with its test, which jumps to the label that was free
-pub writes_tested : (around : calling.Surroundings) (end line : ℕ) (e : Expression) (p : Process)
-    (s tested within after : ProcessWriter) (jumped : List Piece)
-    → tested.listing ≡ s.listing ++ test_code (site_of s).frame.homes (site_of s).known.entries s.frame.top e s.label
-    → TakenLeft around line e p s tested within → jumped ≡ within.listing ++ Jump end ∷ []
+pub writes_tested : (around : calling.Surroundings) (end : ℕ) (x : Choice) (s tested within after : ProcessWriter)
+    (jumped : List Piece) → tested.listing ≡ s.listing ++ test_code (site_of s).frame.homes (site_of s).known.entries
+    s.frame.top (expression_of x.condition) s.label
+    → TakenLeft around (choice_of x) s tested within → jumped ≡ within.listing ++ Jump end ∷ []
     → after.listing ≡ jumped ++ row_of s.label (frame_seen within.frame) (known_of within.scope) ∷ []
-    → site_of after ≡ site_of within → WritesAs s after around (tested_code end) (Chosen line e p)
-writes_tested around end line e p s tested within after jumped test x jumps row still =
+    → site_of after ≡ site_of within → WritesAs s after around (tested_code end) (choice_of x)
+writes_tested around end x s tested within after jumped test taken jumps row still =
     let here = surroundings_of around in
     let z = site_of s in
-    let c = placed here (Chosen line e p) z.known in
+    let e = expression_of x.condition in
+    let c = placed here (Chosen x.line e (process_of x.process)) z.known in
     let process = taken_code z.frame c (z.label + 1) in
+    let left = subst (λ d. TakenLeft around d s tested within) (sym (choice_seen x)) taken in
     let rest : after.listing ≡ within.listing ++ Jump end ∷ row_of s.label z.frame c.after ∷ [] =
-    row ∙ (λ j. jumps j ++ row_of s.label (x.frame j) (x.known j) ∷ [])
+    row ∙ (λ j. jumps j ++ row_of s.label (left.frame j) (left.known j) ∷ [])
     ∙ append_assoc within.listing (Jump end ∷ []) (row_of s.label z.frame c.after ∷ []) in
     let labels : after.label ≡ within.label = ap (λ (y : Site). y.label) still in
-    record {
+    subst (λ d. WritesAs s after around (tested_code end) d) (choice_seen x) (record {
       code = subst (λ n. Appends s.listing after.listing n (tested_code end z.frame c z.label)) (sym labels)
           (appends_before (closed_by (Jump end ∷ row_of s.label z.frame c.after ∷ []) process) s.listing tested.listing
           after.listing (test_code z.frame.homes z.known.entries z.frame.top e z.label) within.label test
           (appends_closed process tested.listing within.listing after.listing
-          (Jump end ∷ row_of s.label z.frame c.after ∷ []) within.label x.code rest));
-      known = ap (λ (y : Site). y.known) still ∙ x.known;
-      frame = ap (λ (y : Site). y.frame) still ∙ x.frame;
-    }
+          (Jump end ∷ row_of s.label z.frame c.after ∷ []) within.label left.code rest));
+      known = ap (λ (y : Site). y.known) still ∙ left.known;
+      frame = ap (λ (y : Site). y.frame) still ∙ left.frame;
+    })
 
 -- with its test, which jumps to the end of the IF
-pub writes_open : (around : calling.Surroundings) (end line : ℕ) (e : Expression) (p : Process)
-    (s tested within : ProcessWriter)
-    → tested.listing ≡ s.listing ++ test_code (site_of s).frame.homes (site_of s).known.entries s.frame.top e end
-    → site_of tested ≡ site_of s → WritesAs tested within around taken_code (Chosen line e p)
-    → WritesAs s within around (open_code end) (Chosen line e p)
-writes_open around end line e p s tested within test place x =
+pub writes_open : (around : calling.Surroundings) (end : ℕ) (x : Choice) (s tested within : ProcessWriter)
+    → tested.listing ≡ s.listing ++ test_code (site_of s).frame.homes (site_of s).known.entries s.frame.top
+    (expression_of x.condition) end
+    → site_of tested ≡ site_of s → WritesAs tested within around taken_code (choice_of x)
+    → WritesAs s within around (open_code end) (choice_of x)
+writes_open around end x s tested within test place taken =
     let here = surroundings_of around in
     let z = site_of s in
-    let process = choice_as taken_code here (Chosen line e p) z in
+    let e = expression_of x.condition in
+    let c = Chosen x.line e (process_of x.process) in
+    let left = subst (λ d. WritesAs tested within around taken_code d) (sym (choice_seen x)) taken in
+    let process = choice_as taken_code here c z in
     let inner : Appends tested.listing within.listing within.label process =
-    subst (λ (y : Site). Appends tested.listing within.listing within.label
-    (choice_as taken_code here (Chosen line e p) y)) place x.code in
-    record {
+    subst (λ (y : Site). Appends tested.listing within.listing within.label (choice_as taken_code here c y)) place
+    left.code in
+    subst (λ d. WritesAs s within around (open_code end) d) (choice_seen x) (record {
       code = appends_before process s.listing tested.listing within.listing
           (test_code z.frame.homes z.known.entries z.frame.top e end) within.label test inner;
-      known = x.known ∙ ap (λ (y : Site). after_component here.around (Mark mark.If) (Chosen line e p) y.known) place;
-      frame = x.frame ∙ ap (λ (y : Site). y.frame) place;
-    }
+      known = left.known ∙ ap (λ (y : Site). after_component here.around (Mark mark.If) c y.known) place;
+      frame = left.frame ∙ ap (λ (y : Site). y.frame) place;
+    })
 
 -- an open choice, and the one after it
 pub writes_opens : (around : calling.Surroundings) (end : ℕ) (opened last : Bor Choice) {s t w : ProcessWriter}

@@ -3,14 +3,40 @@ use Rattle.std.proofs.Common.{◌≡◌, ℕ, ◌+◌, ◌<◌, ◌≤◌, List,
 use Rattle.std.proofs.lemmas.List.{append_assoc, append-nil, at_drop_more, at_drop_all}
 use Rattle.occam_parser.specs.declared.tree.Declaration as code_declaration
 use Rattle.occam_parser.specs.LineViews.{declaration_of}
+use Rattle.scalar_ranges.specs.declared.scope.Scope as code_scope
+use Rattle.scalar_ranges.specs.Entries.{Meaning}
+use Rattle.scalar_ranges.specs.Scopes.{known_of, entries_of}
+use Rattle.program_uses.specs.Declaring.{add_all}
 use Rattle.program_uses.specs.InTurn.{in_turn}
 use Rattle.code_generator.specs.declared.limits.Limits.{Limits}
 use Rattle.code_generator.specs.declared.processes.ProcessWriter.{ProcessWriter}
 use Rattle.code_pieces.specs.Pieces.{Piece}
-use Rattle.line_pieces.specs.Declarations.{declaration_code}
+use Rattle.line_pieces.specs.declared.frame.Frame as code_frame
+use Rattle.line_pieces.specs.Declarations.{declaration_code, with_names}
+use Rattle.line_pieces.specs.FrameViews.{frame_seen}
 use Rattle.code_generator.specs.Processes.{Site, with_declaration}
 use Rattle.code_generator.specs.Written.{site_of, Declares, DeclaresAll, declarations_code, IsTooMuch}
 use Rattle.code_generator.proofs.Exceeding.{much_left}
+
+-- where names are declared that take some words each, and have a meaning
+pub names_placed : (names : List (List ℕ)) (s : ProcessWriter) {count words : ℕ} {m meaning : Meaning}
+    (frame : code_frame.Frame) (scope : code_scope.Scope)
+    → frame_seen frame ≡ with_names count names (frame_seen s.frame) → count ≡ words
+    → entries_of scope ≡ add_all names m (entries_of s.scope) → m ≡ meaning
+    → (known_of scope).blocks ≡ (known_of s.scope).blocks
+    → site_of (record s { frame = frame; scope = scope }) ≡ record {
+      frame = with_names words names (frame_seen s.frame);
+      known = record { entries = add_all names meaning (entries_of s.scope); blocks = (known_of s.scope).blocks };
+      label = s.label;
+    }
+names_placed names s frame scope framed counted known means blocks =
+    let homes = framed ∙ ap (λ n. with_names n names (frame_seen s.frame)) counted in
+    let entries = known ∙ ap (λ x. add_all names x (entries_of s.scope)) means in
+    λ i. record {
+      frame = homes i;
+      known = record { entries = entries i; blocks = blocks i };
+      label = s.label;
+    }
 
 pub declared_next : (ds : List code_declaration.Declaration) (i : ℕ) (x : code_declaration.Declaration)
     (s t : ProcessWriter) (start : List Piece) → i < length ds → x ≡ get_or ds i x

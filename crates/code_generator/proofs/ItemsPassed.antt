@@ -1,29 +1,23 @@
 -- What is known and written after the items before main, and that main's code is then the program's.
-use Rattle.std.proofs.Common.{◌≡◌, ℕ, ◌+◌, ◌<◌, ◌≤◌, Bool, true, false, cond, List, [], ◌∷◌, ◌++◌, length, map}
-use Rattle.std.proofs.Common.{take, get_or, max, nat_eq, Option, Some, None, IfSome, inl, inr, refl, sym, ap, subst}
+use Rattle.std.proofs.Common.{◌≡◌, ℕ, ◌+◌, ◌<◌, ◌≤◌, true, List, [], ◌∷◌, ◌++◌, length, map}
+use Rattle.std.proofs.Common.{take, get_or, Option, Some, None, IfSome, inl, inr, refl, sym, ap, subst}
 use Rattle.std.proofs.Common.{◌∙◌, arith}
 use Rattle.std.proofs.Math.Seq.{take-append_seam}
 use Rattle.std.proofs.lemmas.List.{length-append, length-map, map-append, take_all}
+use Rattle.std.specs.Borrow.{Bor}
 use Rattle.std.specs.Global.{Vec}
-use Rattle.std.specs.List.{AllByRecursion}
 use Rattle.word_arithmetic.specs.Range.{Ends}
+use Rattle.occam_parser.specs.declared.parsed.Program.{Program}
 use Rattle.occam_parser.specs.declared.tree.Item.{Item}
 use Rattle.occam_parser.specs.declared.tree.Item.TheVariants.{Proc}
+use Rattle.occam_parser.specs.declared.tree.Formal as code_formal
 use Rattle.occam_parser.specs.declared.tree.Proc as code_proc
-use Rattle.occam_parser.specs.declared.tree.ValueType.{ValueType}
-use Rattle.occam_parser.specs.Lines as lines
-use Rattle.occam_parser.specs.Lines.{Value, Constants}
+use Rattle.occam_parser.specs.LineViews.{formal_of}
 use Rattle.occam_parser.specs.Blocks.{Procedure, ProgramItem, GlobalConstant, GlobalProcedure}
 use Rattle.occam_parser.specs.BlockViews.{item_of, procedure_of}
-use Rattle.scalar_ranges.specs.declared.scope.ArrayKind.TheVariants as array
 use Rattle.scalar_ranges.specs.Entries as entries
-use Rattle.scalar_ranges.specs.Entries.{Meaning, Constant, Scalar, Array, Channel, Channels, Entry, type_range}
-use Rattle.scalar_ranges.specs.Moves.{Known, begun_with, outermost}
-use Rattle.scalar_ranges.proofs.Nesting.{outermost_twice}
-use Rattle.program_uses.specs.Actions.{Around}
-use Rattle.program_uses.specs.Changes.{changed_by}
-use Rattle.program_uses.specs.Constants.{size_in}
-use Rattle.program_uses.specs.Declaring.{table_of, constant_meaning, range_of_items, range_of_bytes}
+use Rattle.scalar_ranges.specs.Entries.{Meaning}
+use Rattle.scalar_ranges.specs.Moves.{Known, outermost}
 use Rattle.program_uses.specs.InTurn.{in_turn}
 use Rattle.program_uses.specs.Signatures.{Parameter, parameters_of, signatures_of}
 use Rattle.code_generator.specs.declared.calling.Surroundings as calling
@@ -35,23 +29,23 @@ use Rattle.code_generator.specs.Processes.{Site}
 use Rattle.program_uses.specs.declared.signature.Signature.{Signature}
 use Rattle.program_uses.specs.ActionViews.{around_of}
 use Rattle.program_uses.proofs.NextInTurn.{seen_more, last_in_turn}
-use Rattle.program_uses.proofs.ScopesExtended.{inner_cut}
-use Rattle.program_meaning.specs.RangesWithin.{MeaningWithin, EntriesWithin}
-use Rattle.program_meaning.proofs.MovesWithin.{moves_stay_within}
 use Rattle.scalar_ranges.specs.declared.bounds.TheConstants.{OUT_OF_RANGE}
-use Rattle.usage_checks.specs.AfterProcesses.{inside}
 use Rattle.usage_checks.specs.BrokenInTurn.{BreaksInTurn}
 use Rattle.usage_checks.specs.ItemRules as item_rules
-use Rattle.usage_checks.specs.ItemRules.{in_body, after_procedure, Outside, after_weighing, weighed, after_walk}
+use Rattle.usage_checks.specs.ItemRules.{Outside, after_weighing, weighed, after_walk}
 use Rattle.usage_checks.specs.ItemRules.{after_item, after_items, BreaksItem, BreaksNoRule, around_in, signature_of}
 use Rattle.usage_checks.specs.Sizes.{Measured, measures_of_item}
 use Rattle.usage_checks.proofs.PlacesHold.{Unbroken}
-use Rattle.usage_checks.proofs.ProgramsGoWell.{formals_inner}
-use Rattle.usage_checks.proofs.RangesStay.{ranges_stay}
 use Rattle.code_pieces.specs.Pieces.{Piece, Code}
 use Rattle.code_generator.specs.declared.processes.ProcessWriter.{ProcessWriter}
 use Rattle.line_pieces.specs.Declarations.{Frame}
-use Rattle.code_generator.specs.Programs.{callable, last_item_code, items_code, main_code, code_of}
+use Rattle.line_pieces.specs.declared.frame.Frame as code_frame
+use Rattle.line_pieces.specs.FrameViews.{frame_seen}
+use Rattle.scalar_ranges.specs.declared.scope.Scope as code_scope
+use Rattle.scalar_ranges.specs.Scopes.{known_of}
+use Rattle.program_uses.specs.Declaring.{add_formals}
+use Rattle.code_generator.specs.Programs.{callable, with_links, in_main, last_item_code, items_code, main_code}
+use Rattle.code_generator.specs.Programs.{code_of}
 use Rattle.code_generator.specs.MainWritten.{behind_item, Globals, with_item, globals_of, Precedes}
 use Rattle.code_generator.specs.MainWritten.{WritesMain}
 use Rattle.program_meaning.specs.Sequential.{IsSequentialProgram}
@@ -63,84 +57,23 @@ use Rattle.program_work.proofs.SequentialTested.{main_tested}
 use Rattle.code_generator.specs.declared.limits.Limits.{Limits}
 use Rattle.code_generator.specs.TooMuch.{IsMuchCode}
 use Rattle.code_generator.specs.Written.{site_of, first_site, Appends, Exceeds}
+use Rattle.code_generator.proofs.OuterNames.{AreStill, constant_still, procedure_leaves}
 
 -- ---- outside of procedures
-
--- all but a scalar
-abbrev IsStill : Meaning → Type 0
-IsStill (Scalar kind type range) = ⊥
-IsStill m = Unit {0}
 
 -- no block is around, and no name denotes a scalar
 record IsOutside (k : Known) : Type 0 where
   blocks : k.blocks ≡ []
-  still : AllByRecursion (λ e. IsStill e.meaning) k.entries
-
-table_still : (type : ValueType) (size : Option ℕ) (count : ℕ) (range : Option Ends)
-    → IsStill (table_of type size count range)
-table_still type None count range = tt
-table_still type (Some n) count None = tt
-table_still type (Some n) count (Some range) = by_count (nat_eq n count)
-  where
-    by_count : (t : Bool) → IsStill
-        (cond t (Array array.Table type (Some n) range) (Array array.Table type None (type_range type)))
-    by_count true = tt
-    by_count false = tt
-
-constant_still : (es : List Entry) (type : ValueType) (value : Value) → IsStill (constant_meaning es type value)
-constant_still es type (lines.Scalar e) = tt
-constant_still es type (lines.Table size items) = table_still type (size_in es size) _ (range_of_items es type items)
-constant_still es type (lines.Bytes size bytes) =
-    table_still type (size_in es size) (length bytes) (range_of_bytes type bytes)
-
-still_within : (free : Bool) (m n : Meaning) → IsStill n → MeaningWithin free m n → m ≡ n
-still_within free m n still (inl same) = same
-still_within free (Scalar kind type r) (Scalar k t s) still (inr within) = absurd still
-still_within free m n still (inr within) = absurd within
-
-entries_within : (ns : List ℕ) (ds es : List Entry) → AllByRecursion (λ e. IsStill e.meaning) es
-    → EntriesWithin ns ds es → ds ≡ es
-entries_within ns [] [] all within = refl
-entries_within ns [] (e ∷ es) all within = absurd within
-entries_within ns (d ∷ ds) [] all within = absurd within
-entries_within ns (d ∷ ds) (e ∷ es) all within =
-    let means = still_within _ d.meaning e.meaning all.0 within.1 in
-    let rest = entries_within ns ds es all.1 within.2 in
-    λ i. record { name = within.0 i; meaning = means i } ∷ rest i
-
--- A procedure leaves all as it was.
-procedure_leaves : (a : Around) (p : Procedure) (k : Known) → IsOutside k → after_procedure a p k ≡ k
-procedure_leaves a p k outside =
-    let body = in_body p k in
-    let n = length k.entries in
-    let more = formals_inner k.entries p.head.formals k.entries in
-    let long = ap length more.1 in
-    let added = length-append more.0 k.entries in
-    let begun = ap begun_with outside.blocks in
-    let stays = ranges_stay.processes a p.body body (omega (arith, begun)) in
-    let final = inside a p.body body in
-    let most : max n (begun_with final.blocks) ≡ n =
-    let same = ap begun_with (stays.blocks ∙ outside.blocks) in omega (arith, same) in
-    let left : outermost n (outermost (length body.entries) final.entries) ≡ outermost n final.entries =
-    outermost_twice n (length body.entries) final.entries (omega (arith, long, added)) in
-    let cut : outermost n body.entries ≡ k.entries = ap (outermost n) more.1 ∙ inner_cut more.0 k.entries in
-    let within : EntriesWithin (changed_by a.signatures body.entries p.body) (outermost n final.entries) k.entries =
-    subst (λ (x : List Entry × List Entry). EntriesWithin (changed_by a.signatures body.entries p.body) x.0 x.1)
-    (λ i. (left i, cut i))
-    (moves_stay_within.leaving (changed_by a.signatures body.entries p.body) n
-    (outermost (length body.entries) final.entries) body.entries stays.within) in
-    let same = ap (λ m. outermost m final.entries) most
-    ∙ entries_within (changed_by a.signatures body.entries p.body) (outermost n final.entries) k.entries outside.still
-    within in
-    λ i. record { entries = same i; blocks = stays.blocks i }
+  still : AreStill k.entries
 
 -- ---- items are weighed
 
-weighing_keeps : (x : Option ℕ) (ms : List Measured) (o : Outside) → (after_weighing x ms o).known ≡ o.known
+pub weighing_keeps : (x : Option ℕ) (ms : List Measured) (o : Outside) → (after_weighing x ms o).known ≡ o.known
 weighing_keeps None ms o = refl
 weighing_keeps (Some line) ms o = refl
 
-weighing_signs : (x : Option ℕ) (ms : List Measured) (o : Outside) → (after_weighing x ms o).signatures ≡ o.signatures
+pub weighing_signs : (x : Option ℕ) (ms : List Measured) (o : Outside)
+    → (after_weighing x ms o).signatures ≡ o.signatures
 weighing_signs None ms o = refl
 weighing_signs (Some line) ms o = refl
 
@@ -162,13 +95,10 @@ outside_after item o outside =
       still = (constant_still o.known.entries c.value_type c.value, outside.still);
     }
     walked (GlobalProcedure p) o outside =
-        let same = procedure_leaves (around_in o) p o.known outside in
+        let same = procedure_leaves (around_in o) p o.known outside.blocks outside.still in
         record {
           blocks = ap (λ (k : Known). k.blocks) same ∙ outside.blocks;
-          still = (
-            tt,
-            subst (λ (k : Known). AllByRecursion (λ e. IsStill e.meaning) k.entries) (sym same) outside.still,
-          );
+          still = (tt, subst (λ (k : Known). AreStill k.entries) (sym same) outside.still);
         }
 
 outside_behind : (items : List ProgramItem) (g : Globals) → IsOutside g.outside.known
@@ -195,8 +125,8 @@ known_behind (GlobalProcedure p) g count outside counted =
     let o = g.outside in
     let w = weighed item o in
     let m : (signatures : List (List Parameter)) → Meaning = λ signatures. entries.Procedure (length signatures) in
-    let left = procedure_leaves (around_in w) p w.known (subst IsOutside (sym (weighed_known item o)) outside)
-    ∙ weighed_known item o in
+    let there = subst IsOutside (sym (weighed_known item o)) outside in
+    let left = procedure_leaves (around_in w) p w.known there.blocks there.still ∙ weighed_known item o in
     let number : count ≡ length w.signatures = counted ∙ ap length (sym (weighed_signatures item o)) in
     λ i. record {
       frame = (with_item item g).frame;
@@ -291,7 +221,7 @@ never_ends None unbroken = refl
 never_ends (Some line) unbroken =
     absurd (unbroken (record { number = OUT_OF_RANGE; line = line }) (refl, refl))
 
-still_counted : (x : Option ℕ) (ms : List Measured) (o : Outside) → x ≡ None
+pub still_counted : (x : Option ℕ) (ms : List Measured) (o : Outside) → x ≡ None
     → Unbroken (item_rules.Ends x (after_weighing x ms o).uncounted) → (after_weighing x ms o).uncounted ≡ None
 still_counted (Some line) ms o is unbroken = absurd (cc is)
 still_counted None ms o is unbroken = never_ends _ unbroken
@@ -384,6 +314,25 @@ main_code_is before p s around unbroken precedes signed uncounted those all =
     ∙ (λ i. main_code (where_called (callees i) (record { signatures = signatures i; uncounted = none i }) (count i)) p
     (site i))
 
+-- where the body of main begins, whose links and parameters came
+pub main_begins : (main : code_proc.Proc) (s : ProcessWriter) (frame : code_frame.Frame) (scope : code_scope.Scope)
+    (links names : List code_formal.Formal)
+    → frame_seen frame ≡ with_links (map formal_of links) (frame_seen s.frame) → links ≡ main.formals.items
+    → (known_of scope).entries
+    ≡ add_formals (known_of s.scope).entries (map formal_of names) (known_of s.scope).entries
+    → names ≡ main.formals.items → (known_of scope).blocks ≡ (known_of s.scope).blocks
+    → site_of (record s { frame = frame; scope = scope }) ≡ in_main (procedure_of main) (site_of s)
+main_begins main s frame scope links names linked all added each blocks =
+    let es = (known_of s.scope).entries in
+    let homes = linked
+    ∙ ap (λ (fs : List code_formal.Formal). with_links (map formal_of fs) (frame_seen s.frame)) all in
+    let entries = added ∙ ap (λ (fs : List code_formal.Formal). add_formals es (map formal_of fs) es) each in
+    λ i. record {
+      frame = homes i;
+      known = record { entries = entries i; blocks = blocks i };
+      label = s.label;
+    }
+
 -- The items of a program, where those before main are known, and where main begins.
 pub record Begins (all before : List Item) (p : code_proc.Proc) (s : Start) (around : calling.Surroundings) : Type 0
   where
@@ -392,24 +341,42 @@ pub record Begins (all before : List Item) (p : code_proc.Proc) (s : Start) (aro
     pub code : code_of (map item_of before ++ GlobalProcedure (procedure_of p) ∷ [])
         ≡ main_code (surroundings_of around) (procedure_of p) (site_of s.writer)
 
-pub begins : (all before : List Item) (p : code_proc.Proc) (signatures rest : List Signature) (x : Signature)
-    (s : Start) (around : calling.Surroundings) → all ≡ before ++ Proc p ∷ []
-    → BreaksNoRule (map item_of all) → signatures_of signatures ≡ (after_items (map item_of all)).signatures
-    → signatures ≡ rest ++ x ∷ [] → around.around.signatures.now ≡ rest → around.around.uncounted ≡ None
-    → around.callees.now ≡ s.callees.items → around.count ≡ length s.callees.items
-    → Precedes s (map item_of before) → Begins all before p s around
-begins all before p signatures rest x s around is unbroken signed split those uncounted callees count precedes =
-    let items = map item_of before in
+-- what is around main, with the signatures before it and the procedures that were met
+abbrev pub around_main : Bor (List Signature) → Bor (List code_callee.Callee) → (count deeper : ℕ) → Limits
+    → calling.Surroundings
+around_main signatures callees count deeper limits = record {
+  around = record { signatures = signatures; uncounted = None };
+  callees = callees;
+  count = count;
+  deeper = deeper;
+  limits = limits;
+}
+
+-- The items are read of a program that breaks no rule, and the last one is this procedure.
+pub begins : {program read : Program} {all before : List Item} {last : Item} {p : code_proc.Proc}
+    {signatures : List Signature} {s : Start} (x : Signature) (rest : Bor (List Signature))
+    (callees : Bor (List code_callee.Callee)) (count deeper : ℕ) (limits : Limits) → read ≡ program
+    → all ≡ read.items.items → BreaksNoRule (map item_of read.items.items)
+    → signatures_of signatures ≡ (after_items (map item_of program.items.items)).signatures
+    → all ≡ before ++ last ∷ [] → last ≡ Proc p → signatures ≡ rest.now ++ x ∷ [] → callees.now ≡ s.callees.items
+    → count ≡ length s.callees.items → Precedes s (map item_of before)
+    → Begins program.items.items before p s (around_main rest callees count deeper limits)
+begins {program = program} {before = before} {p = p} {signatures = signatures} {s = s} x rest callees count deeper
+    limits same items unbroken signed split is those called counted precedes =
+    let ours = map item_of before in
     let main = procedure_of p in
-    let seen : map item_of all ≡ items ++ GlobalProcedure main ∷ [] =
-    ap (map item_of) is ∙ map-append item_of before (Proc p ∷ []) in
-    let before_main = ap signatures_of those ∙ signed_before items main signatures rest x
-    (subst (λ ys. signatures_of signatures ≡ (after_items ys).signatures) seen signed) split in
+    let written = ap (λ (q : Program). q.items.items) (sym same) ∙ sym items ∙ split
+    ∙ ap (λ (item : Item). before ++ item ∷ []) is in
+    let seen : map item_of program.items.items ≡ ours ++ GlobalProcedure main ∷ [] =
+    ap (map item_of) written ∙ map-append item_of before (Proc p ∷ []) in
+    let before_main = signed_before ours main signatures rest.now x
+    (subst (λ ys. signatures_of signatures ≡ (after_items ys).signatures) seen signed) those in
+    let rules = subst (λ (q : Program). BreaksNoRule (map item_of q.items.items)) same unbroken in
     record {
       items = seen;
       precedes = precedes;
-      code = main_code_is items main s around (subst BreaksNoRule seen unbroken) precedes before_main uncounted callees
-          count;
+      code = main_code_is ours main s (around_main rest callees count deeper limits) (subst BreaksNoRule seen rules)
+          precedes before_main refl called counted;
     }
 
 pub program_written : (all before : List Item) (p : code_proc.Proc) (s : Start) (t : ProcessWriter)

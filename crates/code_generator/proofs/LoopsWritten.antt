@@ -1,14 +1,18 @@
 -- A loop is written: its head, its body, and what is after it.
 use Rattle.std.proofs.Common.{◌≡◌, ◌≢◌, ℕ, zero, suc, ◌+◌, ◌≤◌, ℤ, pos, negsuc, List, [], ◌∷◌, ◌++◌, length, take}
-use Rattle.std.proofs.Common.{true, Option, None, unwrap_or, refl, sym, ap, subst, ◌∙◌, arith}
+use Rattle.std.proofs.Common.{Bool, true, Bor, Option, None, unwrap_or, refl, sym, ap, subst, ◌∙◌, arith}
+use Rattle.std.proofs.Common.{FitsSigned, to_z, of_z, w32}
 use Rattle.std.proofs.Math.Seq.{take-append_seam}
+use Rattle.std.proofs.lemmas.Int.{to_z-of_z}
 use Rattle.std.proofs.lemmas.List.{length-map}
+use Rattle.std.specs.Global.{Vec}
 use Rattle.occam_layout.specs.declared.mark.Mark.TheVariants as mark
 use Rattle.occam_parser.specs.Terminals.{Mark}
 use Rattle.occam_parser.specs.Lines.{Replicator}
 use Rattle.occam_parser.specs.Blocks.{Process, Construct, Plain}
 use Rattle.occam_parser.specs.Constructs.{repeated_seq as under_seq}
 use Rattle.scalar_ranges.specs.declared.scope.Scope as code_scope
+use Rattle.scalar_ranges.specs.declared.scope.Meaning as code_meaning
 use Rattle.scalar_ranges.specs.Entries.{Meaning}
 use Rattle.scalar_ranges.specs.Moves.{Known, Block, begun_with, widen, begin_loop, after_block, end}
 use Rattle.scalar_ranges.specs.Scopes.{known_of, meaning_of}
@@ -17,22 +21,24 @@ use Rattle.code_generator.specs.CallViews.{surroundings_of}
 use Rattle.program_uses.specs.Actions.{Around, is_before}
 use Rattle.program_uses.specs.Changes.{changed_by_construct}
 use Rattle.program_uses.specs.Declaring.{add}
-use Rattle.program_uses.specs.Indices.{repeats_of, index_in}
+use Rattle.program_uses.specs.Indices.{Repeats, repeats_of, index_in}
 use Rattle.usage_checks.specs.AfterProcesses.{after_component, after_construct}
 use Rattle.usage_checks.specs.NameRules.{with_entries}
 use Rattle.usage_checks.proofs.RangesStay.{ranges_stay}
-use Rattle.code_pieces.specs.Pieces.{Code, closed_by}
+use Rattle.code_pieces.specs.declared.piece.RowEntry.{RowEntry}
+use Rattle.code_pieces.specs.Pieces.{Piece, LoopBack, Code, closed_by, points}
 use Rattle.code_generator.specs.declared.loops.Turning.{Turning}
 use Rattle.code_generator.specs.declared.processes.ProcessWriter.{ProcessWriter}
 use Rattle.line_pieces.specs.Homes as homes
-use Rattle.line_pieces.specs.HomeViews.{home_seen}
+use Rattle.line_pieces.specs.declared.frame.Frame as code_frame
+use Rattle.line_pieces.specs.HomeViews.{home_seen, homes_seen}
 use Rattle.line_pieces.specs.FrameViews.{frame_seen}
 use Rattle.code_generator.specs.Processes.{Site, Surroundings, row_of, in_loop, value_or_zero, loop_end}
 use Rattle.code_generator.specs.Processes.{loop_code}
 use Rattle.code_generator.specs.Processes.{repeated_seq, process_code, construct_code}
 use Rattle.code_generator.specs.Processes.{component_code}
-use Rattle.code_generator.specs.Written.{site_of, Appends, Writes, after_loop, in_turning, EntersLoop, behind_loop}
-use Rattle.code_generator.specs.Written.{entering_code, leaving_code}
+use Rattle.code_generator.specs.Written.{site_of, Appends, after_loop, in_turning, EntersLoop, behind_loop}
+use Rattle.code_generator.specs.Written.{entering_code, leaving_code, turning_code, WritesTurning}
 use Rattle.code_generator.specs.Written.{LeavesLoop, looped_code, WritesLoop, WritesConstruct, WritesOne}
 use Rattle.code_generator.proofs.PartsWritten.{appends_before, appends_closed}
 
@@ -128,9 +134,7 @@ body_left around p l changed {s} {t} {u} names word head enters one names_are wo
 pub writes_turning : (around : calling.Surroundings) (p : Process) (l : Turning) (changed : List ℕ)
     {s t u w : ProcessWriter} (names word head : ℕ) → EntersLoop s t l changed
     → BodyLeft around p l changed s t u names word head → LeavesLoop u w names word head
-    → (let inner = in_turning (site_of s) l changed in
-    let after = after_loop changed (known_of s.scope) in
-    Writes s w (loop_code (site_of s) inner after l.base l.count (process_code (surroundings_of around) p inner)) after)
+    → WritesTurning s w around l changed p
 writes_turning around p l changed {s} {t} {u} {w} names word head enters x leaves =
     let z = site_of s in
     let inner = in_turning z l changed in
@@ -147,33 +151,66 @@ writes_turning around p l changed {s} {t} {u} {w} names word head enters x leave
       frame = ap (λ (y : Site). y.frame) (leaves.site ∙ x.left);
     }
 
-pub writes_loop : (around : calling.Surroundings) (line : ℕ) (r : Replicator) (p : Process) (l : Turning)
-    (changed : List ℕ) (s w : ProcessWriter) → l.name.now ≡ r.name
-    → meaning_of l.index ≡ index_in (repeats_of (is_before line (surroundings_of around).around.uncounted)
-    (known_of s.scope).entries true r) 0
+-- These are the turns of a replicator over a SEQ on this line.
+pub record IsTurning (around : calling.Surroundings) (line : ℕ) (r : Replicator) (s : ProcessWriter) (l : Turning)
+    : Type 0 where
+  pub name : l.name.now ≡ r.name
+  pub index : meaning_of l.index ≡ index_in (repeats_of (is_before line (surroundings_of around).around.uncounted)
+      (known_of s.scope).entries true r) 0
+  pub base : l.base ≡ value_or_zero (known_of s.scope).entries r.base
+  pub count : l.count ≡ value_or_zero (known_of s.scope).entries r.count
+  pub some : l.count ≢ pos 0
+
+abbrev pub turning_with : Bor (List ℕ) → code_meaning.Meaning → (base count : ℤ) → Turning
+turning_with name index base count = record { name = name; index = index; base = base; count = count }
+
+-- They are passed as they are.
+pub as_passed : (l : Turning) → FitsSigned w32 l.base → FitsSigned w32 l.count
+    → turning_with l.name l.index (to_z w32 (of_z w32 l.base)) (to_z w32 (of_z w32 l.count)) ≡ l
+as_passed l base count = λ i. record {
+  name = l.name;
+  index = l.index;
+  base = to_z-of_z w32 l.base base i;
+  count = to_z-of_z w32 l.count count i;
+}
+
+pub is_turning : (around : calling.Surroundings) (line : ℕ) (r : Replicator) (s : ProcessWriter) (l : Turning)
+    {repeats : Repeats} {counted : Bool} → l.name.now ≡ r.name → meaning_of l.index ≡ index_in repeats 0
+    → repeats ≡ repeats_of counted (known_of s.scope).entries true r
+    → counted ≡ is_before line (surroundings_of around).around.uncounted
     → l.base ≡ value_or_zero (known_of s.scope).entries r.base
-    → l.count ≡ value_or_zero (known_of s.scope).entries r.count → l.count ≢ pos 0
-    → (let inner = in_turning (site_of s) l changed in
-    let after = after_loop changed (known_of s.scope) in
-    Writes s w (loop_code (site_of s) inner after l.base l.count (process_code (surroundings_of around) p inner)) after)
-    → WritesLoop s w around line r changed p
-writes_loop around line r p l changed s w name index base count some x =
+    → l.count ≡ value_or_zero (known_of s.scope).entries r.count → l.count ≢ pos 0 → IsTurning around line r s l
+is_turning around line r s l name index is counted base count some = record {
+  name = name;
+  index = index
+      ∙ ap (λ x. index_in x 0) (is ∙ (λ i. repeats_of (counted i) (known_of s.scope).entries true r));
+  base = base;
+  count = count;
+  some = some;
+}
+
+-- With its turns it is the whole loop.
+pub turning_is : {around : calling.Surroundings} {line : ℕ} {r : Replicator} {s : ProcessWriter} {l : Turning}
+    (p : Process) (changed : List ℕ) → IsTurning around line r s l
+    → turning_code (surroundings_of around) l changed p (site_of s)
+    ≡ looped_code (surroundings_of around) line r changed p (site_of s)
+turning_is {around = around} {s = s} {l = l} p changed x =
     let here = surroundings_of around in
-    let a = here.around in
     let z = site_of s in
     let after = after_loop changed z.known in
-    let inner = in_turning z l changed in
-    let loop = loop_code z inner after l.base l.count (process_code here p inner) in
-    let same : loop ≡ looped_code here line r changed p z =
-    sym (with_turns z changed after l.base loop l.count some)
-    ∙ (λ i. repeated_seq z changed after (base i)
-    (loop_code z (in_loop z (begin_loop changed z.known) (name i) (index i)) after (base i) (count i)
-    (process_code here p (in_loop z (begin_loop changed z.known) (name i) (index i)))) (count i)) in
-    record {
-      code = subst (λ o. Appends s.listing w.listing w.label o) same x.code;
-      known = x.known;
-      frame = x.frame;
-    }
+    sym (with_turns z changed after l.base (turning_code here l changed p z) l.count x.some)
+    ∙ (λ i. repeated_seq z changed after (x.base i)
+    (loop_code z (in_loop z (begin_loop changed z.known) (x.name i) (x.index i)) after (x.base i) (x.count i)
+    (process_code here p (in_loop z (begin_loop changed z.known) (x.name i) (x.index i)))) (x.count i))
+
+pub writes_loop : {around : calling.Surroundings} {line : ℕ} {r : Replicator} {s w : ProcessWriter} {l : Turning}
+    (p : Process) (changed : List ℕ) → IsTurning around line r s l → WritesTurning s w around l changed p
+    → WritesLoop s w around line r changed p
+writes_loop {s = s} {w = w} p changed turns x = record {
+  code = subst (λ o. Appends s.listing w.listing w.label o) (turning_is p changed turns) x.code;
+  known = x.known;
+  frame = x.frame;
+}
 
 -- where the variables were found that the body changes
 pub writes_replicated : (around : calling.Surroundings) (line : ℕ) (r : Replicator) (p : Process) (c : Construct)
@@ -196,3 +233,30 @@ writes_replicated around line r p c changed scope {s} {t} is same found x =
       known = x.known ∙ (λ i. after_loop (all i) (same i)) ∙ sym (after_loop_is a line r p z.known);
       frame = x.frame;
     })
+
+-- ---- leaving it
+
+-- What is before the last row of a loop is written, and the row says this.
+pub record IsLoopLeft (s : ProcessWriter) (names word head behind : ℕ) (written : List Piece)
+    (left : code_frame.Frame) (ended : code_scope.Scope) : Type 0 where
+  pub code : written ≡ s.listing ++ points word ∷ LoopBack head (head + 1) ∷ []
+  pub frame : frame_seen left ≡ (behind_loop names word (site_of s)).frame
+  pub known : known_of ended ≡ end (known_of s.scope)
+  pub row : row_of behind (frame_seen left) (known_of ended)
+      ≡ row_of (head + 1) (behind_loop names word (site_of s)).frame (end (known_of s.scope))
+
+pub loop_left : (s : ProcessWriter) (names word head : ℕ) {behind : ℕ} (written : List Piece)
+    (left : code_frame.Frame) (ended : code_scope.Scope)
+    → homes_seen left.homes.items ≡ take names (homes_seen s.frame.homes.items) → left.top ≡ word
+    → left.outer ≡ s.frame.outer → known_of ended ≡ end (known_of s.scope) → behind ≡ head + 1
+    → written ≡ s.listing ++ points word ∷ LoopBack head behind ∷ []
+    → IsLoopLeft s names word head behind written left ended
+loop_left s names word head written left ended homes top outer known next is =
+    let frame : frame_seen left ≡ (behind_loop names word (site_of s)).frame =
+    λ i. record { homes = homes i; top = top i; outer = ap (λ (v : Vec RowEntry). v.items) outer i } in
+    record {
+      code = is ∙ ap (λ n. s.listing ++ points word ∷ LoopBack head n ∷ []) next;
+      frame = frame;
+      known = known;
+      row = λ i. row_of (next i) (frame i) (known i);
+    }

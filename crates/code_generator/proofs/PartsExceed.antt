@@ -5,11 +5,11 @@ use Rattle.std.proofs.lemmas.List.{take_all, get_or_default}
 use Rattle.occam_layout.specs.declared.mark.Mark.TheVariants as mark
 use Rattle.occam_parser.specs.declared.tree.Choice.{Choice}
 use Rattle.occam_parser.specs.Terminals.{Mark}
-use Rattle.occam_parser.specs.Expressions.{Expression}
+use Rattle.occam_parser.specs.Views.{expression_of}
 use Rattle.occam_parser.specs.Lines.{Declaration}
 use Rattle.occam_parser.specs.Blocks.{Process, Does, Construct, Part, Choices, Components, Component, Chosen}
 use Rattle.occam_parser.specs.BlockReading.{with_declarations}
-use Rattle.occam_parser.specs.BlockViews.{all_of, choice_of, all_choices}
+use Rattle.occam_parser.specs.BlockViews.{all_of, process_of, choice_of, all_choices}
 use Rattle.occam_parser.proofs.SeenBlocks.{all_push}
 use Rattle.scalar_ranges.specs.declared.scope.Scope as code_scope
 use Rattle.scalar_ranges.specs.Entries.{Meaning}
@@ -39,7 +39,7 @@ use Rattle.code_generator.specs.Written.{site_of, DeclaresAll, declarations_code
 use Rattle.code_generator.specs.Written.{WritesSeq, choice_as, WritesAs, tested_at, WritesTested, ending_at}
 use Rattle.code_generator.specs.Written.{placed_ending, AreEnded, choices_at, after_if, if_at, placed_turns}
 use Rattle.code_generator.specs.Written.{turns_tested, WritesSomeTurns, turns_at}
-use Rattle.code_generator.proofs.ChoicesWritten.{ending_is, TakenLeft, ChoicesLeft}
+use Rattle.code_generator.proofs.ChoicesWritten.{choice_seen, ending_is, TakenLeft, ChoicesLeft}
 use Rattle.code_generator.proofs.Exceeding.{OneMore, exceeds_more, exceeds_before, exceeds_closed, exceeds_behind}
 use Rattle.code_generator.proofs.Exceeding.{exceeds_first, exceeds_second, exceeds_all, much_behind}
 use Rattle.code_generator.proofs.PartsWritten.{code_behind, site_after}
@@ -204,62 +204,75 @@ exceeds_passing l around end opened last {s} {t} first h =
     first.known h)
 
 -- a choice without its test
-pub exceeds_taken : (l : Limits) (s : ProcessWriter) (here : Surroundings) (line : ℕ) (e : Expression) (p : Process)
-    (inner : code_scope.Scope) → known_of inner ≡ chosen e (known_of s.scope)
-    → Exceeds l s.listing (process_code here p (site_of (record s { scope = inner })))
-    → Exceeds l s.listing (choice_as taken_code here (Chosen line e p) (site_of s))
-exceeds_taken l s here line e p inner narrowed h =
-    subst (λ k. Exceeds l s.listing (process_code here p (at_place k s.label (site_of s)))) narrowed h
+pub exceeds_taken : (l : Limits) (s : ProcessWriter) (here : Surroundings) (x : Choice) (inner : code_scope.Scope)
+    → known_of inner ≡ chosen (expression_of x.condition) (known_of s.scope)
+    → Exceeds l s.listing (process_code here (process_of x.process) (site_of (record s { scope = inner })))
+    → Exceeds l s.listing (choice_as taken_code here (choice_of x) (site_of s))
+exceeds_taken l s here x inner narrowed h =
+    subst (λ c. Exceeds l s.listing (choice_as taken_code here c (site_of s))) (choice_seen x)
+    (subst (λ k. Exceeds l s.listing (process_code here (process_of x.process) (at_place k s.label (site_of s))))
+    narrowed h)
 
 -- the process of a choice with its test
-pub exceeds_tested : (l : Limits) (here : Surroundings) (end line : ℕ) (e : Expression) (p : Process)
-    (s tested : ProcessWriter)
-    → tested.listing ≡ s.listing ++ test_code (site_of s).frame.homes (site_of s).known.entries s.frame.top e s.label
+pub exceeds_tested : (l : Limits) (here : Surroundings) (end : ℕ) (x : Choice) (s tested : ProcessWriter)
+    → tested.listing ≡ s.listing ++ test_code (site_of s).frame.homes (site_of s).known.entries s.frame.top
+    (expression_of x.condition) s.label
     → site_of tested ≡ at_place (known_of s.scope) (s.label + 1) (site_of s)
-    → Exceeds l tested.listing (choice_as taken_code here (Chosen line e p) (site_of tested))
-    → Exceeds l s.listing (choice_as (tested_code end) here (Chosen line e p) (site_of s))
-exceeds_tested l here end line e p s tested test place h =
+    → Exceeds l tested.listing (choice_as taken_code here (choice_of x) (site_of tested))
+    → Exceeds l s.listing (choice_as (tested_code end) here (choice_of x) (site_of s))
+exceeds_tested l here end x s tested test place h =
     let z = site_of s in
-    let c = placed here (Chosen line e p) z.known in
+    let e = expression_of x.condition in
+    let seen = Chosen x.line e (process_of x.process) in
+    let c = placed here seen z.known in
     let rest = Jump end ∷ row_of s.label z.frame c.after ∷ [] in
     let process = taken_code z.frame c (z.label + 1) in
-    exceeds_before l (closed_by rest process) s.listing tested.listing
+    subst (λ d. Exceeds l s.listing (choice_as (tested_code end) here d z)) (choice_seen x)
+    (exceeds_before l (closed_by rest process) s.listing tested.listing
     (test_code z.frame.homes z.known.entries z.frame.top e z.label) test
     (exceeds_closed l process tested.listing rest
-    (subst (λ (y : Site). Exceeds l tested.listing (choice_as taken_code here (Chosen line e p) y)) place h))
+    (subst (λ (y : Component Choices × Site). Exceeds l tested.listing (choice_as taken_code here y.0 y.1))
+    (λ i. (sym (choice_seen x) i, place i)) h)))
 
 -- the row after it
-pub exceeds_other : (l : Limits) (around : calling.Surroundings) (end line : ℕ) (e : Expression) (p : Process)
+pub exceeds_other : (l : Limits) (around : calling.Surroundings) (end : ℕ) (x : Choice)
     (s tested within : ProcessWriter) (jumped : List Piece)
-    → tested.listing ≡ s.listing ++ test_code (site_of s).frame.homes (site_of s).known.entries s.frame.top e s.label
-    → TakenLeft around line e p s tested within → jumped ≡ within.listing ++ Jump end ∷ []
+    → tested.listing ≡ s.listing ++ test_code (site_of s).frame.homes (site_of s).known.entries s.frame.top
+    (expression_of x.condition) s.label
+    → TakenLeft around (choice_of x) s tested within → jumped ≡ within.listing ++ Jump end ∷ []
     → IsTooMuch l jumped (row_of s.label (frame_seen within.frame) (known_of within.scope) ∷ [])
-    → Exceeds l s.listing (choice_as (tested_code end) (surroundings_of around) (Chosen line e p) (site_of s))
-exceeds_other l around end line e p s tested within jumped test x jumps h =
+    → Exceeds l s.listing (choice_as (tested_code end) (surroundings_of around) (choice_of x) (site_of s))
+exceeds_other l around end x s tested within jumped test taken jumps h =
     let here = surroundings_of around in
     let z = site_of s in
-    let c = placed here (Chosen line e p) z.known in
+    let e = expression_of x.condition in
+    let c = placed here (Chosen x.line e (process_of x.process)) z.known in
     let process = taken_code z.frame c (z.label + 1) in
     let rest = Jump end ∷ row_of s.label z.frame c.after ∷ [] in
-    exceeds_before l (closed_by rest process) s.listing tested.listing
+    let left = subst (λ d. TakenLeft around d s tested within) (sym (choice_seen x)) taken in
+    subst (λ d. Exceeds l s.listing (choice_as (tested_code end) here d z)) (choice_seen x)
+    (exceeds_before l (closed_by rest process) s.listing tested.listing
     (test_code z.frame.homes z.known.entries z.frame.top e z.label) test
-    (exceeds_behind l process tested.listing within.listing rest within.label x.code
+    (exceeds_behind l process tested.listing within.listing rest within.label left.code
     (much_behind l within.listing jumped (Jump end ∷ []) (row_of s.label z.frame c.after ∷ []) jumps
     (subst (λ (y : Frame × Known). IsTooMuch l jumped (row_of s.label y.0 y.1 ∷ []))
-    (λ i. (x.frame i, x.known i)) h)))
+    (λ i. (left.frame i, left.known i)) h))))
 
 -- a choice whose test jumps to the end of the IF
-pub exceeds_open : (l : Limits) (here : Surroundings) (end line : ℕ) (e : Expression) (p : Process)
-    (s tested : ProcessWriter)
-    → tested.listing ≡ s.listing ++ test_code (site_of s).frame.homes (site_of s).known.entries s.frame.top e end
+pub exceeds_open : (l : Limits) (here : Surroundings) (end : ℕ) (x : Choice) (s tested : ProcessWriter)
+    → tested.listing ≡ s.listing ++ test_code (site_of s).frame.homes (site_of s).known.entries s.frame.top
+    (expression_of x.condition) end
     → site_of tested ≡ site_of s
-    → Exceeds l tested.listing (choice_as taken_code here (Chosen line e p) (site_of tested))
-    → Exceeds l s.listing (choice_as (open_code end) here (Chosen line e p) (site_of s))
-exceeds_open l here end line e p s tested test place h =
+    → Exceeds l tested.listing (choice_as taken_code here (choice_of x) (site_of tested))
+    → Exceeds l s.listing (choice_as (open_code end) here (choice_of x) (site_of s))
+exceeds_open l here end x s tested test place h =
     let z = site_of s in
-    exceeds_before l (choice_as taken_code here (Chosen line e p) z) s.listing tested.listing
+    let e = expression_of x.condition in
+    subst (λ d. Exceeds l s.listing (choice_as (open_code end) here d z)) (choice_seen x)
+    (exceeds_before l (choice_as taken_code here (Chosen x.line e (process_of x.process)) z) s.listing tested.listing
     (test_code z.frame.homes z.known.entries z.frame.top e end) test
-    (subst (λ (y : Site). Exceeds l tested.listing (choice_as taken_code here (Chosen line e p) y)) place h)
+    (subst (λ (y : Component Choices × Site). Exceeds l tested.listing (choice_as taken_code here y.0 y.1))
+    (λ i. (sym (choice_seen x) i, place i)) h))
 
 -- ---- an IF
 
@@ -299,16 +312,17 @@ turns_split here end name repeats c z k = ap (turns_upto here end name repeats c
 
 -- what is too much of the turns that are tested is so of all
 pub exceeds_turns : (l : Limits) (around : calling.Surroundings) (end : ℕ) (name : List ℕ) (repeats : Repeats)
-    (line : ℕ) (e : Expression) (p : Process) (c : Component Choices) (count tested n : ℕ) (m : Meaning)
-    {s t : ProcessWriter} (scope : code_scope.Scope) → Chosen line e p ≡ c
-    → tested ≡ turns_tested count (is_true e) → n < tested → m ≡ index_in repeats n
-    → known_of scope ≡ with_entries (add name m) (known_of t.scope) → WritesSomeTurns s t around end name repeats c n
-    → Exceeds l t.listing (choice_as (tested_code end) (surroundings_of around) c
+    (x : Choice) (count tested n : ℕ) (m : Meaning) {s t : ProcessWriter} (scope : code_scope.Scope)
+    → tested ≡ turns_tested count (is_true (expression_of x.condition)) → n < tested → m ≡ index_in repeats n
+    → known_of scope ≡ with_entries (add name m) (known_of t.scope)
+    → WritesSomeTurns s t around end name repeats (choice_of x) n
+    → Exceeds l t.listing (choice_as (tested_code end) (surroundings_of around) (choice_of x)
     (site_of (record t { scope = scope })))
-    → Exceeds l s.listing (turns_at (surroundings_of around) end name c repeats count (site_of s))
-exceeds_turns l around end name repeats line e p c count tested n m {s} {t} scope is found h means enters first one =
+    → Exceeds l s.listing (turns_at (surroundings_of around) end name (choice_of x) repeats count (site_of s))
+exceeds_turns l around end name repeats x count tested n m {s} {t} scope found h means enters first one =
     let here = surroundings_of around in
     let z = site_of s in
+    let c = choice_of x in
     let upto = turns_upto here end name repeats c z in
     let begun = turn_entered here.around name repeats c n m z.known (known_of t.scope) (known_of scope) means enters
     first.known in
@@ -319,28 +333,32 @@ exceeds_turns l around end name repeats line e p c count tested n m {s} {t} scop
     (λ g label. tested_code end g
     (placed here c (turn_begun here.around (Mark mark.If) name c repeats z.known n)) label) first
     (subst (λ k. Exceeds l t.listing (tested_code end (frame_seen t.frame) (placed here c k) t.label)) begun one)) in
-    let ends = ends_somehow here name line e p c repeats z.known count tested is found in
+    let ends = ends_somehow here name x.line (expression_of x.condition) (process_of x.process) c repeats z.known count
+    tested (choice_seen x) found in
     subst (λ x. Exceeds l s.listing (choices_code end z.frame x z.label)) (sym ends.1)
     (exceeds_first l (upto tested) (ending_code end z.frame ends.0) s.listing
     (exceeds_all l upto tested (n + 1) s.listing steps (omega arith) more))
 
 -- the last turn, where it has no test
 pub exceeds_last_turn : (l : Limits) (around : calling.Surroundings) (end : ℕ) (name : List ℕ) (repeats : Repeats)
-    (line : ℕ) (e : Expression) (p : Process) (c : Component Choices) (count tested : ℕ) (m : Meaning)
-    {s t : ProcessWriter} (scope : code_scope.Scope) → Chosen line e p ≡ c
-    → tested ≡ turns_tested count (is_true e) → tested ≢ count → m ≡ index_in repeats tested
-    → known_of scope ≡ with_entries (add name m) (known_of t.scope)
-    → WritesSomeTurns s t around end name repeats c tested
-    → Exceeds l t.listing (choice_as taken_code (surroundings_of around) c (site_of (record t { scope = scope })))
-    → Exceeds l s.listing (turns_at (surroundings_of around) end name c repeats count (site_of s))
-exceeds_last_turn l around end name repeats line e p c count tested m {s} {t} scope is found some means enters first h =
+    (x : Choice) (count tested n : ℕ) (m : Meaning) {s t : ProcessWriter} (scope : code_scope.Scope)
+    → tested ≡ turns_tested count (is_true (expression_of x.condition)) → tested ≢ count → n ≡ tested
+    → m ≡ index_in repeats tested → known_of scope ≡ with_entries (add name m) (known_of t.scope)
+    → WritesSomeTurns s t around end name repeats (choice_of x) n
+    → Exceeds l t.listing (choice_as taken_code (surroundings_of around) (choice_of x)
+    (site_of (record t { scope = scope })))
+    → Exceeds l s.listing (turns_at (surroundings_of around) end name (choice_of x) repeats count (site_of s))
+exceeds_last_turn l around end name repeats x count tested n m {s} {t} scope found some all means enters turns h =
     let here = surroundings_of around in
     let z = site_of s in
+    let c = choice_of x in
+    let first = subst (λ k. WritesSomeTurns s t around end name repeats c k) all turns in
     let begun = turn_entered here.around name repeats c tested m z.known (known_of t.scope) (known_of scope) means
     enters first.known in
     let last = turn_begun here.around (Mark mark.If) name c repeats z.known tested in
     subst (λ x. Exceeds l s.listing (choices_code end z.frame x z.label))
-    (sym (last_untested here name line e p c repeats z.known count tested is found some))
+    (sym (last_untested here name x.line (expression_of x.condition) (process_of x.process) c repeats z.known count
+    tested (choice_seen x) found some))
     (exceeds_then l (turns_upto here end name repeats c z tested) (λ g label. taken_code g (placed here c last) label)
     first
     (subst (λ k. Exceeds l t.listing (taken_code (frame_seen t.frame) (placed here c k) t.label)) begun h))

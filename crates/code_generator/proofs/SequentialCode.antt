@@ -1,6 +1,6 @@
 -- Each sequential program has code: so has each process in it, wherever it is.
-use Rattle.std.proofs.Common.{◌≡◌, ℕ, zero, suc, ◌+◌, ℤ, pos, negsuc, Bool, true, false, cond, List, [], ◌∷◌, ◌++◌}
-use Rattle.std.proofs.Common.{length, Option, Some, None, refl, subst}
+use Rattle.std.proofs.Common.{◌≡◌, ℕ, ℤ, List, [], ◌∷◌}
+use Rattle.std.proofs.Common.{length, Option, refl, subst}
 use Rattle.occam_layout.specs.declared.mark.Mark.TheVariants as mark
 use Rattle.occam_parser.specs.Terminals.{Terminal, Mark}
 use Rattle.occam_parser.specs.Lines.{Replicator, Action, Skip, Stop, Assign, Input, Output, Instance, block_word}
@@ -17,44 +17,22 @@ use Rattle.program_meaning.specs.Sequential.{IsSequentialWord, IsSequentialProgr
 use Rattle.usage_checks.specs.AfterProcesses.{begun, ended, begun_body, after_components, after_body}
 use Rattle.usage_checks.specs.ItemRules.{Outside, outermost, around_in, weighed, after_item}
 use Rattle.code_pieces.specs.declared.operations.TheConstants.{STOP_PROCESS}
-use Rattle.code_pieces.specs.Pieces.{Piece, Jump, operates, Code, before, then_code, closed_by}
-use Rattle.line_pieces.specs.Actions.{test_code}
+use Rattle.code_pieces.specs.Pieces.{operates, Code}
 use Rattle.line_pieces.specs.Homes.{Nowhere}
 use Rattle.line_pieces.specs.Declarations.{Frame, with_home, declaration_code}
 use Rattle.code_generator.specs.Calls.{Callee, where_called}
-use Rattle.code_generator.specs.Processes.{Site, Surroundings, row_of, with_declaration, at_place, line_code}
-use Rattle.code_generator.specs.Processes.{is_true, PlacedChoice, PlacedChoices, NoChoice, ThenChoice}
-use Rattle.code_generator.specs.Processes.{IfEnding, Stops, Always, Opens, EndedChoices, taken_code, tested_code}
-use Rattle.code_generator.specs.Processes.{all_tested, ending_code, choices_code, with_ending, opening, with_opening}
-use Rattle.code_generator.specs.Processes.{if_code, in_loop, value_or_zero, loop_start, loop_end, loop_code}
-use Rattle.code_generator.specs.Processes.{has_scalar, no_loop, repeated_seq, by_block, times, turn_begun}
+use Rattle.code_generator.specs.Processes.{Site, Surroundings, with_declaration, at_place, line_code}
+use Rattle.code_generator.specs.Processes.{PlacedChoice}
+use Rattle.code_generator.specs.Processes.{with_ending, with_opening}
+use Rattle.code_generator.specs.Processes.{if_code, in_loop, value_or_zero, loop_code}
+use Rattle.code_generator.specs.Processes.{repeated_seq, by_block, times, turn_begun}
 use Rattle.code_generator.specs.Processes.{in_each_turn, process_code, construct_code, body_code, components_code}
 use Rattle.code_generator.specs.Processes.{component_code, placed_choices, placed}
 use Rattle.code_generator.specs.Programs.{in_main, callable, framed, last_item_code, items_code, no_frame}
 use Rattle.code_generator.specs.SequentialCode.{SequentialProgramsHaveCode}
-
-abbrev HasCode : Option Code → Type 0
-HasCode None = ⊥
-HasCode (Some c) = Unit {0}
-
-found : (code : Option Code) → HasCode code → (c : Code) × (code ≡ Some c)
-found None h = absurd h
-found (Some c) h = (c, refl)
-
--- ---- code put together
-
-before_has : (pieces : List Piece) (code : Option Code) → HasCode code → HasCode (before pieces code)
-before_has pieces None h = h
-before_has pieces (Some c) h = tt
-
-closed_has : (pieces : List Piece) (code : Option Code) → HasCode code → HasCode (closed_by pieces code)
-closed_has pieces None h = h
-closed_has pieces (Some c) h = tt
-
-then_has : (code : Option Code) (next : ℕ → Option Code) → HasCode code → ((label : ℕ) → HasCode (next label))
-    → HasCode (then_code code next)
-then_has None next h all = h
-then_has (Some c) next h all = before_has c.pieces (next c.labels) (all c.labels)
+use Rattle.code_generator.proofs.CodeTogether.{HasCode, found, before_has, closed_has, then_has, HasProcess}
+use Rattle.code_generator.proofs.CodeTogether.{opened_if_has, repeated_if_has, repeated_has, loop_has}
+use Rattle.code_generator.proofs.EachChoice.{AllAre}
 
 -- ---- actions
 
@@ -95,105 +73,21 @@ components_have w (Further cs c) s h all =
     (components_have w cs s h.0 all.0)
     (λ label. component_has w c (at_place (after_components w.around (Mark mark.Seq) cs s.known) label s) h.1 all.1)
 
--- ---- choices of an IF, whose processes have code at all sites
-
-abbrev HasProcess : PlacedChoice → Type 0
-HasProcess c = (s : Site) → HasCode (c.process s)
-
-abbrev AllHave : PlacedChoices → Type 0
-AllHave NoChoice = Unit {0}
-AllHave (ThenChoice cs c) = AllHave cs × HasProcess c
-
-abbrev EndingHas : IfEnding → Type 0
-EndingHas Stops = Unit {0}
-EndingHas (Always c) = HasProcess c
-EndingHas (Opens c) = HasProcess c
-
-abbrev ChoicesHave : EndedChoices → Type 0
-ChoicesHave x = AllHave x.tested × EndingHas x.ending
-
-ending_has : (cs : PlacedChoices) → AllHave cs → ChoicesHave (with_ending cs)
-ending_has NoChoice all = (tt, tt)
-ending_has (ThenChoice cs c) all = by_truth (is_true c.condition)
-  where
-    by_truth : (holds : Bool) → ChoicesHave (cond holds (record { tested = cs; ending = Always c })
-        (record { tested = ThenChoice cs c; ending = Stops }))
-    by_truth true = (all.0, all.1)
-    by_truth false = (all, tt)
-
-opening_has : (cs : PlacedChoices) (x : IfEnding) → AllHave cs → EndingHas x → ChoicesHave (opening cs x)
-opening_has (ThenChoice cs opened) (Always c) all last = by_skip c.is_skip
-  where
-    by_skip : (skips : Bool) → ChoicesHave (cond skips (record { tested = cs; ending = Opens opened })
-        (record { tested = ThenChoice cs opened; ending = Always c }))
-    by_skip true = (all.0, all.1)
-    by_skip false = (all, last)
-opening_has cs x all last = (all, last)
-
-tested_has : (end : ℕ) (f : Frame) (c : PlacedChoice) (label : ℕ) → HasProcess c
-    → HasCode (tested_code end f c label)
-tested_has end f c label h =
-    let behind = Jump end ∷ row_of label f c.after ∷ [] in
-    let process = taken_code f c (label + 1) in
-    before_has (test_code f.homes c.known.entries f.top c.condition label) (closed_by behind process)
-    (closed_has behind process (h _))
-
-all_tested_have : (end : ℕ) (f : Frame) (cs : PlacedChoices) (label : ℕ) → AllHave cs
-    → HasCode (all_tested end f cs label)
-all_tested_have end f NoChoice label all = tt
-all_tested_have end f (ThenChoice cs c) label all =
-    then_has (all_tested end f cs label) (tested_code end f c) (all_tested_have end f cs label all.0)
-    (λ label. tested_has end f c label all.1)
-
-what_ends_has : (end : ℕ) (f : Frame) (x : IfEnding) (label : ℕ) → EndingHas x → HasCode (ending_code end f x label)
-what_ends_has end f Stops label h = tt
-what_ends_has end f (Always c) label h = h _
-what_ends_has end f (Opens c) label h =
-    before_has (test_code f.homes c.known.entries f.top c.condition end) (taken_code f c label) (h _)
-
-if_has : (s : Site) (f : Frame) (after : Known) (x : EndedChoices) → ChoicesHave x → HasCode (if_code s f after x)
-if_has s f after x all =
-    closed_has (row_of s.label s.frame after ∷ []) (choices_code s.label f x (s.label + 1))
-    (then_has (all_tested s.label f x.tested (s.label + 1)) (ending_code s.label f x.ending)
-    (all_tested_have s.label f x.tested (s.label + 1) all.0) (λ label. what_ends_has s.label f x.ending label all.1))
+-- ---- choices of an IF
 
 placed_has : {part : Part} (w : Surroundings) (c : Component part) (k : Known)
     → IsSequentialComponent (Mark mark.If) c → IsWritten w c → HasProcess (placed w c k)
 placed_has w (Plain p) k h all = absurd h
-placed_has w (Chosen line e p) k h all = all
+placed_has w (Chosen line e p) k h all = λ f label. all _
 placed_has w (Guarded line g p) k h all = absurd h
 
 placed_all_have : {part : Part} (w : Surroundings) (cs : Components part) (k : Known)
-    → AreSequential (Mark mark.If) cs → AreWritten w cs → AllHave (placed_choices w cs k)
+    → AreSequential (Mark mark.If) cs → AreWritten w cs → AllAre HasProcess (placed_choices w cs k)
 placed_all_have w NoComponent k h all = tt
 placed_all_have w (Further cs c) k h all = (
   placed_all_have w cs k h.0 all.0,
   placed_has w c (after_components w.around (Mark mark.If) cs k) h.1 all.1,
 )
-
-turns_have : (choice : ℕ → PlacedChoice) (count : ℕ) → ((n : ℕ) → HasProcess (choice n))
-    → AllHave (in_each_turn choice count)
-turns_have choice zero all = tt
-turns_have choice (suc n) all = (turns_have choice n all, all n)
-
--- ---- loops
-
-no_loop_has : (changes : Bool) (s : Site) (after : Known) → HasCode (no_loop changes s after)
-no_loop_has false s after = tt
-no_loop_has true s after = tt
-
-repeated_has : (s : Site) (changed : List ℕ) (after : Known) (base : ℤ) (loop : Option Code) (count : ℤ)
-    → HasCode loop → HasCode (repeated_seq s changed after base loop count)
-repeated_has s changed after base loop (pos zero) h = no_loop_has (has_scalar changed s.known.entries) s after
-repeated_has s changed after base loop (pos (suc n)) h = h
-repeated_has s changed after base loop (negsuc n) h = h
-
-loop_has : (s inner : Site) (after : Known) (base count : ℤ) (body : Option Code) → HasCode body
-    → HasCode (loop_code s inner after base count body)
-loop_has s inner after base count body h =
-    let behind = loop_end s.frame.top s.label (row_of (s.label + 1) s.frame after) in
-    before_has (loop_start s.frame.top base count ++ row_of s.label inner.frame inner.known ∷ [])
-    (closed_by behind body) (closed_has behind body h)
 
 -- ---- blocks, whose word is SEQ or IF
 
@@ -215,13 +109,11 @@ block_has : {part : Part} (w : Surroundings) (word : Terminal) (cs : Components 
     → HasCode (by_block word (components_code w cs s)
     (if_code s s.frame after (with_opening (with_ending (placed_choices w cs start)))))
 block_has w word cs s start after h each all =
-    let ended = with_ending (placed_choices w cs start) in
-    in_block word (components_code w cs s) (if_code s s.frame after (with_opening ended)) h
+    in_block word (components_code w cs s)
+    (if_code s s.frame after (with_opening (with_ending (placed_choices w cs start)))) h
     (λ is. components_have w cs s (subst (λ t. AreSequential t cs) is each) all)
-    (λ is.
-    let have = ending_has (placed_choices w cs start)
-    (placed_all_have w cs start (subst (λ t. AreSequential t cs) is each) all) in
-    if_has s s.frame after (with_opening ended) (opening_has ended.tested ended.ending have.0 have.1))
+    (λ is. opened_if_has s s.frame after (placed_choices w cs start)
+    (placed_all_have w cs start (subst (λ t. AreSequential t cs) is each) all))
 
 repeated_block_has : {part : Part} (w : Surroundings) (word : Terminal) (c : Component part) (s inner : Site)
     (r : Replicator) (changed : List ℕ) (repeats : Repeats) (start after : Known) (base count : ℤ)
@@ -239,9 +131,9 @@ repeated_block_has w word c s inner r changed repeats start after base count h a
     (if_code s (with_home Nowhere s.frame) after (with_ending turns)) (component_word word c h)
     (λ is. repeated_has s changed after base loop count (loop_has s inner after base count body
     (component_has w c inner (subst (λ t. IsSequentialComponent t c) is h) all)))
-    (λ is. if_has s (with_home Nowhere s.frame) after (with_ending turns) (ending_has turns
-    (turns_have choice (times repeats) (λ n. placed_has w c (turn_begun w.around word r.name c repeats start n)
-    (subst (λ t. IsSequentialComponent t c) is h) all))))
+    (λ is. repeated_if_has s (with_home Nowhere s.frame) after choice (times repeats)
+    (λ n less. placed_has w c (turn_begun w.around word r.name c repeats start n)
+    (subst (λ t. IsSequentialComponent t c) is h) all))
 
 -- ---- processes
 

@@ -1,12 +1,12 @@
 -- A choice under a replicator is written turn by turn.
 use Rattle.std.proofs.Common.{◌≡◌, ◌≢◌, ℕ, zero, suc, ◌+◌, Bool, true, false, cond, List, [], ◌∷◌, ◌++◌, length, take}
-use Rattle.std.proofs.Common.{None, refl, sym, ap, subst, ◌∙◌, add-one, arith}
-use Rattle.std.proofs.Math.Seq.{take-append_seam}
-use Rattle.std.proofs.lemmas.List.{length-map}
-use Rattle.std.specs.Global.{Vec}
+use Rattle.std.proofs.Common.{Option, refl, sym, ap, subst, ◌∙◌, add-one, arith}
 use Rattle.occam_layout.specs.declared.mark.Mark.TheVariants as mark
+use Rattle.occam_parser.specs.declared.tree.Choice.{Choice}
 use Rattle.occam_parser.specs.Terminals.{Mark}
 use Rattle.occam_parser.specs.Expressions.{Expression}
+use Rattle.occam_parser.specs.Views.{expression_of}
+use Rattle.occam_parser.specs.BlockViews.{process_of, choice_of}
 use Rattle.occam_parser.specs.Lines.{Replicator}
 use Rattle.occam_parser.specs.Blocks.{Process, Choices, Component, Chosen}
 use Rattle.scalar_ranges.specs.declared.scope.Scope as code_scope
@@ -16,20 +16,19 @@ use Rattle.scalar_ranges.specs.Scopes.{known_of}
 use Rattle.code_generator.specs.declared.calling.Surroundings as calling
 use Rattle.code_generator.specs.CallViews.{surroundings_of}
 use Rattle.program_uses.specs.Actions.{Around, is_before}
-use Rattle.program_uses.specs.Changes.{changed_by_construct, changed_by_component}
+use Rattle.program_uses.specs.Changes.{changed_by_construct}
 use Rattle.program_uses.specs.Declaring.{add}
-use Rattle.program_uses.specs.Indices.{Repeats, repeats_of, index_in, index_meaning, turn_by_turn}
-use Rattle.usage_checks.specs.AfterProcesses.{begun_body, repeated, after_construct, after_component}
+use Rattle.program_uses.specs.Indices.{Repeats, repeats_of, index_in, turn_by_turn}
+use Rattle.usage_checks.specs.AfterProcesses.{begun_body, after_construct, after_component}
 use Rattle.usage_checks.specs.NameRules.{with_entries}
-use Rattle.usage_checks.proofs.RangesStay.{covers_itself, turns_turned, component_stays}
+use Rattle.usage_checks.proofs.RangesStay.{component_stays}
 use Rattle.code_pieces.specs.declared.operations.TheConstants.{STOP_PROCESS}
-use Rattle.code_pieces.specs.declared.piece.RowEntry.{RowEntry}
-use Rattle.code_pieces.specs.Pieces.{Piece, operates, closed_by}
+use Rattle.code_pieces.specs.Pieces.{Piece, Code, operates, closed_by}
 use Rattle.line_pieces.specs.declared.frame.Frame as code_frame
 use Rattle.code_generator.specs.declared.processes.ProcessWriter.{ProcessWriter}
 use Rattle.line_pieces.specs.Homes.{Nowhere}
-use Rattle.line_pieces.specs.Declarations.{Frame}
-use Rattle.line_pieces.specs.HomeViews.{home_seen, homes_seen}
+use Rattle.line_pieces.specs.Declarations.{Frame, with_home}
+use Rattle.line_pieces.specs.HomeViews.{homes_seen}
 use Rattle.line_pieces.specs.FrameViews.{frame_seen}
 use Rattle.code_generator.specs.Processes.{Site, Surroundings, row_of, times, turned, turn_begun, is_true, ThenChoice}
 use Rattle.code_generator.specs.Processes.{IfEnding, Stops, Always, EndedChoices, taken_code, tested_code, ending_code}
@@ -37,8 +36,9 @@ use Rattle.code_generator.specs.Processes.{all_tested, choices_code, with_ending
 use Rattle.code_generator.specs.Written.{site_of, Appends, Writes, WritesConstruct, WritesAs, before_turns}
 use Rattle.code_generator.specs.Written.{placed_turns, after_choice_turns, turns_tested, WritesSomeTurns, turns_at}
 use Rattle.code_generator.specs.Written.{WritesTurns}
+use Rattle.code_generator.proofs.ChoicesWritten.{choice_seen}
 use Rattle.code_generator.proofs.PartsWritten.{appends_closed, writes_then}
-use Rattle.code_generator.proofs.LoopsWritten.{ended_block}
+use Rattle.code_generator.proofs.TurnsEnd.{frame_left, turns_ended}
 
 -- ---- one turn after the other
 
@@ -125,20 +125,23 @@ stops_after w name line e p repeats k (suc n) false is all =
     ap (λ holds. cond holds (record { tested = cs; ending = Always last })
     (record { tested = ThenChoice cs last; ending = Stops })) is
 
-pub turns_stopped : (around : calling.Surroundings) (end : ℕ) (name : List ℕ) (repeats : Repeats) (line : ℕ)
-    (e : Expression) (p : Process) (c : Component Choices) (count tested : ℕ) {s t : ProcessWriter}
-    (listing : List Piece) → Chosen line e p ≡ c → tested ≡ turns_tested count (is_true e) → tested ≡ count
-    → WritesSomeTurns s t around end name repeats c tested → listing ≡ t.listing ++ operates STOP_PROCESS ∷ []
-    → WritesTurns s (record t { listing = listing }) around end name repeats count c
-turns_stopped around end name repeats line e p c count tested {s} {t} listing is found all first stops =
+pub turns_stopped : (around : calling.Surroundings) (end : ℕ) (name : List ℕ) (repeats : Repeats) (x : Choice)
+    (count tested n : ℕ) {s t : ProcessWriter} (listing : List Piece)
+    → tested ≡ turns_tested count (is_true (expression_of x.condition)) → tested ≡ count → n ≡ tested
+    → WritesSomeTurns s t around end name repeats (choice_of x) n
+    → listing ≡ t.listing ++ operates STOP_PROCESS ∷ []
+    → WritesTurns s (record t { listing = listing }) around end name repeats count (choice_of x)
+turns_stopped around end name repeats x count tested n {s} {t} listing found whole all turns stops =
     let here = surroundings_of around in
     let z = site_of s in
+    let c = choice_of x in
+    let e = expression_of x.condition in
     let final = record t { listing = listing } in
     let k = after_choice_turns here.around name c repeats z.known count in
-    let before = subst (λ n. WritesSomeTurns s t around end name repeats c n) all first in
-    let ends = ap (λ c. with_ending (placed_turns here name c repeats z.known count)) (sym is)
-    ∙ stops_after here name line e p repeats z.known count (is_true e) refl (sym found ∙ all)
-    ∙ ap (λ c. record { tested = placed_turns here name c repeats z.known count; ending = Stops }) is in
+    let before = subst (λ n. WritesSomeTurns s t around end name repeats c n) (all ∙ whole) turns in
+    let ends = ap (λ c. with_ending (placed_turns here name c repeats z.known count)) (sym (choice_seen x))
+    ∙ stops_after here name x.line e (process_of x.process) repeats z.known count (is_true e) refl (sym found ∙ whole)
+    ∙ ap (λ c. record { tested = placed_turns here name c repeats z.known count; ending = Stops }) (choice_seen x) in
     subst (λ x. Writes s final (choices_code end z.frame x z.label) k) (sym ends)
     (writes_then (all_tested end z.frame (placed_turns here name c repeats z.known count) z.label)
     (λ g label. ending_code end g Stops label) before (stops, refl) before.known refl)
@@ -180,23 +183,28 @@ one_more count tested false found some = absurd (some found)
 one_more zero tested true found some = absurd (some (omega (arith, found)))
 one_more (suc n) tested true found some = omega (arith, found)
 
-pub turns_taken : (around : calling.Surroundings) (end : ℕ) (name : List ℕ) (repeats : Repeats) (line : ℕ)
-    (e : Expression) (p : Process) (c : Component Choices) (count tested : ℕ) (m : Meaning) {s t w : ProcessWriter}
-    (scope : code_scope.Scope) → Chosen line e p ≡ c → tested ≡ turns_tested count (is_true e) → tested ≢ count
+pub turns_taken : (around : calling.Surroundings) (end : ℕ) (name : List ℕ) (repeats : Repeats) (x : Choice)
+    (count tested n : ℕ) (m : Meaning) {s t w : ProcessWriter} (scope : code_scope.Scope)
+    → tested ≡ turns_tested count (is_true (expression_of x.condition)) → tested ≢ count → n ≡ tested
     → m ≡ index_in repeats tested → known_of scope ≡ with_entries (add name m) (known_of t.scope)
-    → WritesSomeTurns s t around end name repeats c tested
-    → WritesAs (record t { scope = scope }) w around taken_code c → WritesTurns s w around end name repeats count c
-turns_taken around end name repeats line e p c count tested m {s} {t} {w} scope is found some means enters first one =
+    → WritesSomeTurns s t around end name repeats (choice_of x) n
+    → WritesAs (record t { scope = scope }) w around taken_code (choice_of x)
+    → WritesTurns s w around end name repeats count (choice_of x)
+turns_taken around end name repeats x count tested n m {s} {t} {w} scope found some all means enters turns one =
     let here = surroundings_of around in
     let a = here.around in
     let z = site_of s in
+    let c = choice_of x in
+    let e = expression_of x.condition in
+    let first = subst (λ k. WritesSomeTurns s t around end name repeats c k) all turns in
     let begun = turn_entered a name repeats c tested m z.known (known_of t.scope) (known_of scope) means enters
     first.known in
     let last = placed here c (turn_begun a (Mark mark.If) name c repeats z.known tested) in
     let known = after_choice_turns a name c repeats z.known in
     subst (λ (v : EndedChoices × Known). Writes s w (choices_code end z.frame v.0 z.label) v.1)
     (λ i. (
-      sym (last_untested here name line e p c repeats z.known count tested is found some) i,
+      sym (last_untested here name x.line e (process_of x.process) c repeats z.known count tested (choice_seen x) found
+          some) i,
       known (one_more count tested (is_true e) found some i),
     ))
     (writes_then (all_tested end z.frame (placed_turns here name c repeats z.known tested) z.label)
@@ -207,42 +215,27 @@ turns_taken around end name repeats line e p c count tested m {s} {t} {w} scope 
 
 -- ---- what is known after the turns
 
--- Where a choice does not happen all is then as it was.
-nothing_happens : (a : Around) (name : List ℕ) (c : Component Choices) (repeats : Repeats) (k : Known)
-    → repeats.sequential ≡ false
-    → end (end (turn_by_turn (turned a (Mark mark.If) name c repeats) repeats.turns.count (begin (begin k)))) ≡ k
-nothing_happens a name c repeats k sequential =
-    let es = add name (index_meaning false None) k.entries in
-    let all = changed_by_component a.signatures es c in
-    let turns = turn_by_turn (turned a (Mark mark.If) name c repeats) repeats.turns.count (begin (begin k)) in
-    let h = turns_turned a all (Mark mark.If) c name repeats [] k.entries (begin k) repeats.turns.count tt tt
-    sequential refl (component_stays a all (Mark mark.If) c tt es (covers_itself all)) in
-    ap end (ended_block turns (record { start = h.start; ends = h.ends }) (begin k).blocks
-    (ap (λ (x : Known). x.blocks) h.is))
-
 pub turns_end : (a : Around) (line : ℕ) (r : Replicator) (c : Component Choices) (k : Known)
     → (let repeats = repeats_of (is_before line a.uncounted) k.entries false r in
     end (turn_by_turn (turned a (Mark mark.If) r.name c repeats) (times repeats) (begin k))
     ≡ after_construct a line (under_if r c) k)
-turns_end a line r c k = by_happens (repeats_of (is_before line a.uncounted) k.entries false r).happens
-  where
-    repeats : Repeats
-    repeats = repeats_of (is_before line a.uncounted) k.entries false r
-
-    by_happens : (happens : Bool)
-        → end (turn_by_turn (turned a (Mark mark.If) r.name c repeats) (cond happens repeats.turns.count 0) (begin k))
-        ≡ repeated happens (turn_by_turn (turned a (Mark mark.If) r.name c repeats) repeats.turns.count
-        (begun_body (Mark mark.If) (changed_by_construct a.signatures k.entries (under_if r c)) happens k))
-    by_happens true = refl
-    by_happens false = sym (nothing_happens a r.name c repeats k refl)
+turns_end a line r c k =
+    let repeats = repeats_of (is_before line a.uncounted) k.entries false r in
+    turns_ended a (Mark mark.If) r.name c repeats (changed_by_construct a.signatures k.entries (under_if r c)) k tt tt
+    refl (λ all. component_stays a all (Mark mark.If) c tt) (λ m. refl) repeats.happens
 
 -- ---- an IF under a replicator
 
+-- its choice in each turn
+abbrev pub repeated_turns : Surroundings → ℕ → Replicator → Component Choices → Site → Option Code
+repeated_turns here line r c s =
+    let repeats = repeats_of (is_before line here.around.uncounted) s.known.entries false r in
+    turns_at here s.label r.name c repeats (times repeats) (before_turns s (begin s.known))
+
 pub repeated_if_is : (here : Surroundings) (line : ℕ) (r : Replicator) (c : Component Choices) (s : Site)
-    → (let repeats = repeats_of (is_before line here.around.uncounted) s.known.entries false r in
-    construct_code here line (under_if r c) s
+    → construct_code here line (under_if r c) s
     ≡ closed_by (row_of s.label s.frame (after_construct here.around line (under_if r c) s.known) ∷ [])
-    (turns_at here s.label r.name c repeats (times repeats) (before_turns s (begin s.known))))
+    (repeated_turns here line r c s)
 repeated_if_is here line r c s =
     ap (closed_by (row_of s.label s.frame (after_construct here.around line (under_if r c) s.known) ∷ []))
     (by_happens (repeats_of (is_before line here.around.uncounted) s.known.entries false r).happens)
@@ -261,46 +254,57 @@ repeated_if_is here line r c s =
     by_happens true = refl
     by_happens false = refl
 
+-- Where the turns of a choice begin: its index has come, and these turns are its replicator's.
+pub record TurnsBegin (around : calling.Surroundings) (line : ℕ) (r : Replicator) (s begun : ProcessWriter)
+    (repeats : Repeats) : Type 0 where
+  pub is : repeats
+      ≡ repeats_of (is_before line (surroundings_of around).around.uncounted) (known_of s.scope).entries false r
+  pub listing : begun.listing ≡ s.listing
+  pub place : site_of begun ≡ before_turns (site_of s) (begin (known_of s.scope))
+
+pub turns_begin : (around : calling.Surroundings) (line : ℕ) (r : Replicator) (s : ProcessWriter) {label : ℕ}
+    {repeats : Repeats} {counted : Bool} (scope : code_scope.Scope) (frame : code_frame.Frame)
+    → frame_seen frame ≡ with_home Nowhere (frame_seen s.frame) → known_of scope ≡ begin (known_of s.scope)
+    → label ≡ s.label + 1 → repeats ≡ repeats_of counted (known_of s.scope).entries false r
+    → counted ≡ is_before line (surroundings_of around).around.uncounted
+    → TurnsBegin around line r s (record s { label = label; scope = scope; frame = frame }) repeats
+turns_begin around line r s scope frame named begins next is counted = record {
+  is = is ∙ (λ i. repeats_of (counted i) (known_of s.scope).entries false r);
+  listing = refl;
+  place = λ i. record { frame = named i; known = begins i; label = next i };
+}
+
 -- What is behind the turns of a choice, where its index is left and their block has ended.
 pub record TurnsLeft (around : calling.Surroundings) (line : ℕ) (r : Replicator) (c : Component Choices)
     (s within : ProcessWriter) (left : code_frame.Frame) (ended : code_scope.Scope) : Type 0 where
-  pub code : (let z = site_of s in
-      let repeats = repeats_of (is_before line (surroundings_of around).around.uncounted) z.known.entries false r in
-      Appends s.listing within.listing within.label (turns_at (surroundings_of around) z.label r.name c repeats
-      (times repeats) (before_turns z (begin z.known))))
+  pub code : Appends s.listing within.listing within.label
+      (repeated_turns (surroundings_of around) line r c (site_of s))
   pub known : known_of ended ≡ after_construct (surroundings_of around).around line (under_if r c) (known_of s.scope)
   pub frame : frame_seen left ≡ frame_seen s.frame
 
-pub turns_left : (around : calling.Surroundings) (line names : ℕ) (r : Replicator) (c : Component Choices)
-    (repeats : Repeats) (s begun within : ProcessWriter) (left : code_frame.Frame) (ended : code_scope.Scope)
-    → repeats ≡ repeats_of (is_before line (surroundings_of around).around.uncounted) (known_of s.scope).entries false r
-    → begun.listing ≡ s.listing
-    → site_of begun ≡ before_turns (site_of s) (begin (known_of s.scope))
-    → WritesTurns begun within around s.label r.name repeats (times repeats) c
-    → names ≡ length s.frame.homes.items
+pub turns_left : {around : calling.Surroundings} {line : ℕ} {r : Replicator} {s begun within : ProcessWriter}
+    {repeats : Repeats} {count : ℕ} (c : Component Choices) (names : ℕ) (left : code_frame.Frame)
+    (ended : code_scope.Scope) → TurnsBegin around line r s begun repeats → count ≡ times repeats
+    → WritesTurns begun within around s.label r.name repeats count c → names ≡ length s.frame.homes.items
     → homes_seen left.homes.items ≡ take names (homes_seen within.frame.homes.items) → left.top ≡ s.frame.top
-    → left.outer ≡ within.frame.outer
-    → known_of ended ≡ end (known_of within.scope) → TurnsLeft around line r c s within left ended
-turns_left around line names r c repeats s begun within left ended is same place x long homes top hidden ends =
+    → left.outer ≡ within.frame.outer → known_of ended ≡ end (known_of within.scope)
+    → TurnsLeft around line r c s within left ended
+turns_left {around = around} {line = line} {r = r} {s = s} {begun = begun} {within = within} {repeats = repeats} c names
+    left ended begins counted written long homes top hidden ends =
     let here = surroundings_of around in
     let a = here.around in
     let z = site_of s in
-    let first = before_turns z (begin z.known) in
-    let long_seen : names ≡ length z.frame.homes = long ∙ sym (length-map s.frame.homes.items home_seen) in
-    let grown : frame_seen within.frame ≡ first.frame = x.frame ∙ ap (λ (y : Site). y.frame) place in
-    let kept : homes_seen left.homes.items ≡ z.frame.homes =
-    homes ∙ (λ i. take (long_seen i) (grown i).homes) ∙ take-append_seam z.frame.homes (Nowhere ∷ []) in
-    let outer : left.outer.items ≡ z.frame.outer =
-    ap (λ (v : Vec RowEntry). v.items) hidden ∙ ap (λ (f : Frame). f.outer) grown in
+    let x = subst (λ n. WritesTurns begun within around s.label r.name repeats n c) counted written in
     record {
       code = subst (λ (v : List Piece × Repeats × Site).
           Appends v.0 within.listing within.label (turns_at here z.label r.name c v.1 (times v.1) v.2))
-          (λ i. (same i, is i, place i)) x.code;
+          (λ i. (begins.listing i, begins.is i, begins.place i)) x.code;
       known = ends
-          ∙ ap end (x.known
-          ∙ (λ i. turn_by_turn (turned a (Mark mark.If) r.name c (is i)) (times (is i)) (place i).known))
+          ∙ ap end (x.known ∙ (λ i. turn_by_turn (turned a (Mark mark.If) r.name c (begins.is i)) (times (begins.is i))
+          (begins.place i).known))
           ∙ turns_end a line r c z.known;
-      frame = λ i. record { homes = kept i; top = top i; outer = outer i };
+      frame = frame_left names s.frame within.frame left long homes top hidden
+          (x.frame ∙ ap (λ (y : Site). y.frame) begins.place);
     }
 
 pub writes_repeated_if : (around : calling.Surroundings) (line : ℕ) (r : Replicator) (c : Component Choices)
@@ -312,10 +316,8 @@ pub writes_repeated_if : (around : calling.Surroundings) (line : ℕ) (r : Repli
 writes_repeated_if around line r c s within after left ended x row still =
     let here = surroundings_of around in
     let z = site_of s in
-    let first = before_turns z (begin z.known) in
     let done = after_construct here.around line (under_if r c) z.known in
-    let counted = repeats_of (is_before line here.around.uncounted) z.known.entries false r in
-    let turns = turns_at here z.label r.name c counted (times counted) first in
+    let turns = repeated_turns here line r c z in
     let rest : after.listing ≡ within.listing ++ row_of z.label z.frame done ∷ [] =
     row ∙ (λ i. within.listing ++ row_of z.label (x.frame i) (x.known i) ∷ []) in
     let labels : after.label ≡ within.label = ap (λ (y : Site). y.label) still in

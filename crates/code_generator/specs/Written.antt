@@ -160,10 +160,15 @@ WritesAs s t a code c =
 abbrev pub tested_at : {part : Part} → Surroundings → ℕ → Components part → Site → Option Code
 tested_at w end cs s = all_tested end s.frame (placed_choices w cs s.known) s.label
 
-abbrev pub WritesTested : {part : Part} → (s t : ProcessWriter) → calling.Surroundings → ℕ → Components part → Type 0
-WritesTested s t a end cs =
-    Writes s t (tested_at (surroundings_of a) end cs (site_of s))
+-- choices of an IF that ends at a label are written, as this says
+abbrev pub WritesEach : {part : Part} → (Surroundings → ℕ → Components part → Site → Option Code)
+    → (s t : ProcessWriter) → calling.Surroundings → ℕ → Components part → Type 0
+WritesEach code s t a end cs =
+    Writes s t (code (surroundings_of a) end cs (site_of s))
     (after_components (surroundings_of a).around (Mark mark.If) cs (known_of s.scope))
+
+abbrev pub WritesTested : {part : Part} → (s t : ProcessWriter) → calling.Surroundings → ℕ → Components part → Type 0
+WritesTested s t a end cs = WritesEach tested_at s t a end cs
 
 -- what comes after them, at this site
 abbrev pub ending_at : Surroundings → ℕ → code_ending.IfEnding → Site → Option Code
@@ -225,9 +230,7 @@ abbrev pub choices_at : {part : Part} → Surroundings → ℕ → Components pa
 choices_at w end cs s = choices_code end s.frame (if_choices w cs s.known) s.label
 
 abbrev pub WritesChoices : {part : Part} → (s t : ProcessWriter) → calling.Surroundings → ℕ → Components part → Type 0
-WritesChoices s t a end cs =
-    Writes s t (choices_at (surroundings_of a) end cs (site_of s))
-    (after_components (surroundings_of a).around (Mark mark.If) cs (known_of s.scope))
+WritesChoices s t a end cs = WritesEach choices_at s t a end cs
 
 -- an IF at a site, with what is known after it
 abbrev pub after_if : {part : Part} → Around → Components part → Known → Known
@@ -279,6 +282,16 @@ leaving_code names word head s =
 pub record LeavesLoop (s t : ProcessWriter) (names word head : ℕ) : Type 0 where
   pub code : t.listing ≡ s.listing ++ leaving_code names word head (site_of s)
   pub site : site_of t ≡ behind_loop names word (site_of s)
+
+-- a loop with turns, whose body changes these variables
+abbrev pub turning_code : Surroundings → Turning → List ℕ → Process → Site → Option Code
+turning_code w l changed p s =
+    let inner = in_turning s l changed in
+    loop_code s inner (after_loop changed s.known) l.base l.count (process_code w p inner)
+
+abbrev pub WritesTurning : (s t : ProcessWriter) → calling.Surroundings → Turning → List ℕ → Process → Type 0
+WritesTurning s t a l changed p =
+    Writes s t (turning_code (surroundings_of a) l changed p (site_of s)) (after_loop changed (known_of s.scope))
 
 -- a loop of a process, which changes these variables
 abbrev pub looped_code : Surroundings → ℕ → Replicator → List ℕ → Process → Site → Option Code

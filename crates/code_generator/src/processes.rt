@@ -19,7 +19,8 @@ ghost use Rattle.code_generator.specs.Processes.{row_of, line_code, process_code
 ghost use Rattle.code_generator.specs.Processes.{construct_code, body_code, components_code, component_code};
 ghost use Rattle.code_generator.specs.Written.{site_of, Appends, Declares, DeclaresAll, WritesConstruct, WritesProcess};
 ghost use Rattle.code_generator.specs.Written.{WritesSeq, WritesOne, WritesLoop, first_site, WritesLine};
-ghost use Rattle.code_generator.specs.Written.{IsTooMuch, Exceeds, declarations_code, looped_code};
+ghost use Rattle.code_generator.specs.Written.{IsTooMuch, Exceeds, declarations_code, turning_code, looped_code};
+ghost use Rattle.code_generator.specs.Written.{WritesTurning};
 
 use crate::calling::Surroundings;
 use crate::clearing::clear_names;
@@ -279,30 +280,13 @@ impl<'a> ProcessWriter<'a> {
             → around.entry.limits.is_sequential ≡ false }
     {
         let before = self.begin_line(process.line)?;
-        self.write_process(around, process)?;
-        self.begin_line(before)?;
-        Ok(())
-    }
-
-    /// A process, with what it declares, on the line that is begun.
-    #[cycle(processes)]
-    fn write_process(
-        &mut self,
-        around: Surroundings<'_, 'a>,
-        process: &Process<'a>,
-    ) -> Result<(), GenFault>
-        ensures ok { IfOk result (λ _. WritesProcess self.old self.new around.entry (process_of process.now)) }
-        ensures limit { result ≡ Err GenFault.Limit → Exceeds around.entry.limits self.old.listing
-            (process_code (surroundings_of around.entry) (process_of process.now) (site_of self.old)) }
-        ensures invalid { result ≡ Err GenFault.Invalid → IsSequential (process_of process.now)
-            → around.entry.limits.is_sequential ≡ false }
-    {
         let inside = around.inside()?;
         let count = self.frame.homes.len();
         let top = self.frame.top;
         self.declare_all(around.limits, &process.declarations)?;
         self.write_construct(inside, process.line, &process.construct)?;
         self.frame.leave(count, top);
+        self.begin_line(before)?;
         Ok(())
     }
 
@@ -498,9 +482,6 @@ impl<'a> ProcessWriter<'a> {
         if count == 0 {
             return self.write_no_loop(around.limits, changed);
         }
-        let head = self.label;
-        let names = self.frame.homes.len();
-        let word = self.frame.top;
         let counted = is_before(line, around.around.uncounted);
         let repeats = repeats_of(counted, &self.scope, true, replicator);
         let turning = Turning {
@@ -509,6 +490,30 @@ impl<'a> ProcessWriter<'a> {
             base: value_or_zero(&self.scope, &replicator.base),
             count,
         };
+        self.write_turning(around, turning, changed, process)?;
+        Ok(())
+    }
+
+    /// A loop with turns.
+    #[cycle(processes)]
+    fn write_turning(
+        &mut self,
+        around: Surroundings<'_, 'a>,
+        turning: Turning<'a>,
+        changed: &[usize],
+        process: &Process<'a>,
+    ) -> Result<(), GenFault>
+        ensures ok { IfOk result (λ _. WritesTurning self.old self.new around.entry turning.entry changed.now
+            (process_of process.now)) }
+        ensures limit { result ≡ Err GenFault.Limit → Exceeds around.entry.limits self.old.listing
+            (turning_code (surroundings_of around.entry) turning.entry changed.now (process_of process.now)
+            (site_of self.old)) }
+        ensures invalid { result ≡ Err GenFault.Invalid → IsSequential (process_of process.now)
+            → around.entry.limits.is_sequential ≡ false }
+    {
+        let head = self.label;
+        let names = self.frame.homes.len();
+        let word = self.frame.top;
         self.enter_loop(around.limits, turning, changed)?;
         self.write_one(around, process)?;
         self.leave_loop(around.limits, names, word, head)?;

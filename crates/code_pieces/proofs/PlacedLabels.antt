@@ -2,17 +2,16 @@
 use Rattle.std.proofs.Common.{◌≡◌, ◌<◌, ◌≤◌, ℕ, zero, suc, ◌+◌, Bool, List, [], ◌∷◌, ◌++◌, length, take}
 use Rattle.std.proofs.Common.{replicate, get_or, set, Option, Some, None, refl, sym, ap, ◌∙◌, arith, subst, inl, inr}
 use Rattle.std.specs.Prelude.{ℤ, unwrap_or, IsSome, if◌then◌else◌}
-use Rattle.std.proofs.lemmas.List.{get_or-set_same, get_or-set_other, length-append, take_more, take_all}
+use Rattle.std.proofs.lemmas.List.{get_or-set_same, get_or-set_other, take_more, take_all}
 use Rattle.std.proofs.lemmas.List.{take-set, get_or-replicate, get_or_past, length-replicate, length-set}
 use Rattle.std.proofs.lemmas.Bool.{cases_lt}
 use Rattle.std.proofs.lemmas.Bool.Decides.{eqb_tells}
 use Rattle.module_builder.specs.Drafts.{Code}
 use Rattle.module_builder.specs.declared.item.Item.{Item}
-use Rattle.code_pieces.specs.Pieces.{Piece, Direct, Jump, JumpUnless, LoopBack, Distance, StartBranch, Select}
-use Rattle.code_pieces.specs.Pieces.{TableAddress, Row, Place, Within, Par}
+use Rattle.code_pieces.specs.Pieces.{Piece, Place}
 use Rattle.code_pieces.specs.Numbers.{Numbered, number_at, with_number}
-use Rattle.code_pieces.specs.Laying.{placed_from, places_of, items_in, items_of, tables_before, draft_code}
-use Rattle.code_pieces.specs.Placing.{IsPlacing, label_in}
+use Rattle.code_pieces.specs.Laying.{placed_from, places_of, items_of, tables_before, draft_code}
+use Rattle.code_pieces.specs.Placing.{IsPlacing}
 
 abbrev At : List (Option ℕ) → List Numbered → ℕ → ℕ
 At targets left k = unwrap_or (get_or targets k None) (number_at k left)
@@ -67,78 +66,6 @@ placed_now code l left placed made free before = record {
   each = λ k. comes code.labels l (length code.items) (placed_from (length code.items) left) made free k
       ∙ before.each k;
 }
-
--- a piece that has a label places it
-pub label_is : (p : Piece) (l : ℕ) (old new : Code) (left : List Piece) (placed : List Numbered) → label_in p ≡ Some l
-    → (IsPlacing old (Place l ∷ left) placed → IsPlacing new left placed)
-    → IsPlacing old (p ∷ left) placed → IsPlacing new left placed
-label_is (Row m entries) l old new left placed e places before =
-    let same : m ≡ l = cc in
-    places (subst (λ (k : ℕ). IsPlacing old (Place k ∷ left) placed) same (record { each = before.each }))
-label_is (Place m) l old new left placed e places before =
-    let same : m ≡ l = cc in
-    places (subst (λ (k : ℕ). IsPlacing old (Place k ∷ left) placed) same before)
-label_is (Direct f n) l old new left placed e places before = absurd (cc)
-label_is (Jump to) l old new left placed e places before = absurd (cc)
-label_is (JumpUnless to) l old new left placed e places before = absurd (cc)
-label_is (LoopBack head behind) l old new left placed e places before = absurd (cc)
-label_is (Distance from to) l old new left placed e places before = absurd (cc)
-label_is (StartBranch entry successor) l old new left placed e places before = absurd (cc)
-label_is (Select targets) l old new left placed e places before = absurd (cc)
-label_is (TableAddress values) l old new left placed e places before = absurd (cc)
-label_is (Within workspace) l old new left placed e places before = absurd (cc)
-label_is (Par par) l old new left placed e places before = absurd (cc)
-
--- a piece with a label has no item
-pub no_items : (ts : List (List ℤ)) (depth : ℤ) (p : Piece) (l : ℕ) → label_in p ≡ Some l → items_in ts depth p ≡ []
-no_items ts depth (Row m entries) l e = refl
-no_items ts depth (Place m) l e = refl
-no_items ts depth (Direct f n) l e = absurd (cc)
-no_items ts depth (Jump to) l e = absurd (cc)
-no_items ts depth (JumpUnless to) l e = absurd (cc)
-no_items ts depth (LoopBack head behind) l e = absurd (cc)
-no_items ts depth (Distance from to) l e = absurd (cc)
-no_items ts depth (StartBranch entry successor) l e = absurd (cc)
-no_items ts depth (Select targets) l e = absurd (cc)
-no_items ts depth (TableAddress values) l e = absurd (cc)
-no_items ts depth (Within workspace) l e = absurd (cc)
-no_items ts depth (Par par) l e = absurd (cc)
-
--- ---- items
-
-counted : (code : Code) (items : List Item) (left : List Piece) (placed : List Numbered)
-    → ((k : ℕ) → At code.labels (placed_from (length code.items + length items) left) k ≡ number_at k placed)
-    → IsPlacing (record { items = code.items ++ items; labels = code.labels }) left placed
-counted code items left placed before = record {
-  each = λ k. ap (λ (n : ℕ). At code.labels (placed_from n left) k) (length-append code.items items) ∙ before k;
-}
-
--- the items of a piece without a label
-pub items_pushed : (ts : List (List ℤ)) (depth : ℤ) (p : Piece) (code : Code) (left : List Piece)
-    (placed : List Numbered) → label_in p ≡ None → IsPlacing code (p ∷ left) placed
-    → IsPlacing (record { items = code.items ++ items_in ts depth p; labels = code.labels }) left placed
-items_pushed ts depth (Row m entries) code left placed e before = absurd (cc)
-items_pushed ts depth (Place m) code left placed e before = absurd (cc)
-items_pushed ts depth (Direct f n) code left placed e before =
-    counted code (items_in ts depth (Direct f n)) left placed before.each
-items_pushed ts depth (Jump to) code left placed e before =
-    counted code (items_in ts depth (Jump to)) left placed before.each
-items_pushed ts depth (JumpUnless to) code left placed e before =
-    counted code (items_in ts depth (JumpUnless to)) left placed before.each
-items_pushed ts depth (LoopBack head behind) code left placed e before =
-    counted code (items_in ts depth (LoopBack head behind)) left placed before.each
-items_pushed ts depth (Distance from to) code left placed e before =
-    counted code (items_in ts depth (Distance from to)) left placed before.each
-items_pushed ts depth (StartBranch entry successor) code left placed e before =
-    counted code (items_in ts depth (StartBranch entry successor)) left placed before.each
-items_pushed ts depth (Select targets) code left placed e before =
-    counted code (items_in ts depth (Select targets)) left placed before.each
-items_pushed ts depth (TableAddress values) code left placed e before =
-    counted code (items_in ts depth (TableAddress values)) left placed before.each
-items_pushed ts depth (Within workspace) code left placed e before =
-    counted code (items_in ts depth (Within workspace)) left placed before.each
-items_pushed ts depth (Par par) code left placed e before =
-    counted code (items_in ts depth (Par par)) left placed before.each
 
 -- ---- the beginning and the end
 

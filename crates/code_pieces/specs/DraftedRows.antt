@@ -38,16 +38,6 @@ pub record ShownRow : Type 0 where
   pub stack : Stack (Fact Label)
   pub entries : List (Entry Label)
 
-abbrev pub shown_row : LabelRow Label ContextName → ShownRow
-shown_row row = record {
-  offset = row.offset;
-  context = row.context;
-  depth = row.depth;
-  number = row.number;
-  stack = row.stack;
-  entries = row.entries.items;
-}
-
 -- nothing is known of registers
 abbrev pub row_with : Label → ContextName → ℤ → ℕ → List (Entry Label) → ShownRow
 row_with l context depth number entries = record {
@@ -58,6 +48,9 @@ row_with l context depth number entries = record {
   stack = record { a = facts.Unknown; b = facts.Unknown; c = facts.Unknown };
   entries = entries;
 }
+
+abbrev pub shown_row : LabelRow Label ContextName → ShownRow
+shown_row row = record (row_with row.offset row.context row.depth row.number row.entries.items) { stack = row.stack }
 
 -- the row in a draft with these PARs
 abbrev pub drafted_row : List Par → SaidRow → ShownRow

@@ -1,5 +1,5 @@
 -- What the module of a small alternation says, byte by byte.
-use Rattle.std.specs.Prelude.{◌≡◌, ℕ, pos, false, List, [], ◌∷◌, ◌++◌}
+use Rattle.std.specs.Prelude.{◌≡◌, ℕ, pos, List, [], ◌∷◌, ◌++◌}
 use Rattle.word_arithmetic.specs.Word.{least_word, greatest_word}
 use Rattle.prefix_decoder.specs.declared.function.Fun.TheVariants as fun
 use Rattle.module_format.specs.declared.fact.Fact.TheVariants as facts
@@ -13,7 +13,7 @@ use Rattle.code_pieces.specs.Pieces.{Piece, Direct, Jump, Distance, Select, Row,
 use Rattle.code_pieces.specs.Pieces.{constant}
 use Rattle.code_pieces.specs.Laying.{apart, draft_code}
 use Rattle.code_pieces.specs.LaidModule.{Arrangement, laid_module}
-use Rattle.code_pieces.specs.SmallPar.{between, row_at, range}
+use Rattle.code_pieces.specs.SmallPar.{between, row_at, range, small_module}
 
 -- pushes the address of input link 0
 abbrev pub input_link : List Piece
@@ -50,27 +50,19 @@ alternation_arrangement = record {
 abbrev pub link_words : List ℕ
 link_words = 0 ∷ 0 ∷ 0 ∷ 0 ∷ 4 ∷ 0 ∷ 0 ∷ 0 ∷ []
 
+abbrev pub alternation_bytes : List ℕ
+alternation_bytes =
+    0x40 ∷ 0xd2 ∷ 0x24 ∷ 0xf3 ∷ 0x24 ∷ 0xf2 ∷ 0x54 ∷ 0x41 ∷ 0x24 ∷ 0xf8 ∷ 0x41 ∷ 0x24 ∷ 0xf9 ∷ 0x24 ∷ 0xf4 ∷ 0x24
+    ∷ 0xf2 ∷ 0x54 ∷ 0x41 ∷ 0x40 ∷ 0x22 ∷ 0xff ∷ 0x41 ∷ 0x47 ∷ 0x23 ∷ 0xf0 ∷ 0x24 ∷ 0xf5 ∷ 0x12 ∷ 0x24 ∷ 0xf2 ∷ 0x54
+    ∷ 0x44 ∷ 0xf7 ∷ 0x01 ∷ 0x00 ∷ 0x21 ∷ 0xf5 ∷ []
+
 abbrev pub alternation_module : Contents
-alternation_module = record {
-  code =
-      0x40 ∷ 0xd2 ∷ 0x24 ∷ 0xf3 ∷ 0x24 ∷ 0xf2 ∷ 0x54 ∷ 0x41 ∷ 0x24 ∷ 0xf8 ∷ 0x41 ∷ 0x24 ∷ 0xf9 ∷ 0x24 ∷ 0xf4 ∷ 0x24
-      ∷ 0xf2 ∷ 0x54 ∷ 0x41 ∷ 0x40 ∷ 0x22 ∷ 0xff ∷ 0x41 ∷ 0x47 ∷ 0x23 ∷ 0xf0 ∷ 0x24 ∷ 0xf5 ∷ 0x12 ∷ 0x24 ∷ 0xf2 ∷ 0x54
-      ∷ 0x44 ∷ 0xf7 ∷ 0x01 ∷ 0x00 ∷ 0x21 ∷ 0xf5 ∷ [];
-  constants = [];
-  data_words = 6;
-  base = 3;
-  budget = 37;
-  finish = 38;
-  lengths = link_words;
-  has_long_operations = false;
-  procedures = [];
-  labels =
-      row_at 28 0 (pos 0) 9 (range 2 1 0 0 ∷ []) ∷ row_at 35 0 (pos 0) 3 (range 2 1 0 0 ∷ [])
-      ∷ row_at 36 0 (pos 0) 2 (record { word = pos 2; span = 1; fact = facts.Number least_word greatest_word } ∷ [])
-      ∷ [];
-  pars = [];
-  table_rows = [];
-}
+alternation_module =
+    small_module alternation_bytes 6 37 38 link_words
+    (row_at 28 0 (pos 0) 9 (range 2 1 0 0 ∷ []) ∷ row_at 35 0 (pos 0) 3 (range 2 1 0 0 ∷ [])
+    ∷ row_at 36 0 (pos 0) 2 (record { word = pos 2; span = 1; fact = facts.Number least_word greatest_word } ∷ [])
+    ∷ [])
+    []
 
 -- The rows are apart already, these are the bytes that instructions need, and the module says what it should: of
 -- its 38 bytes all but one are executed if the number is received.

@@ -120,6 +120,24 @@ par_arrangement = record {
 abbrev pub link_bytes : List ℕ
 link_bytes = 1 ∷ 0 ∷ 0 ∷ 0 ∷ 1 ∷ 0 ∷ 0 ∷ 0 ∷ []
 
+-- A module without constants, procedures and tables: its code, its words, its budget, where it is finished, the lengths
+-- of messages on links, and its rows.
+abbrev pub small_module : List ℕ → ℕ → ℕ → ℕ → List ℕ → List contents.Label → List contents.Par → Contents
+small_module code data_words budget finish lengths labels pars = record {
+  code = code;
+  constants = [];
+  data_words = data_words;
+  base = 3;
+  budget = budget;
+  finish = finish;
+  lengths = lengths;
+  has_long_operations = false;
+  procedures = [];
+  labels = labels;
+  pars = pars;
+  table_rows = [];
+}
+
 abbrev pub row_at : ℕ → ℕ → ℤ → ℕ → List Entry → contents.Label
 row_at offset context depth number entries =
     label_with offset context depth number (record { a = facts.Unknown; b = facts.Unknown; c = facts.Unknown }) entries
@@ -136,22 +154,11 @@ par_row =
     ∷ [])
 
 abbrev pub par_module : Contents
-par_module = record {
-  code = par_bytes;
-  constants = [];
-  data_words = 19;
-  base = 3;
-  budget = 69;
-  finish = 69;
-  lengths = link_bytes;
-  has_long_operations = false;
-  procedures = [];
-  labels =
-      row_at 23 1 (pos 8) 23 (range 3 1 0 0 ∷ []) ∷ row_at 46 2 (pos 14) 14 (range 4 1 0 0 ∷ [])
-      ∷ row_at 60 0 (pos 0) 9 (range 3 2 0 255 ∷ []) ∷ [];
-  pars = par_row ∷ [];
-  table_rows = [];
-}
+par_module =
+    small_module par_bytes 19 69 69 link_bytes
+    (row_at 23 1 (pos 8) 23 (range 3 1 0 0 ∷ []) ∷ row_at 46 2 (pos 14) 14 (range 4 1 0 0 ∷ [])
+    ∷ row_at 60 0 (pos 0) 9 (range 3 2 0 255 ∷ []) ∷ [])
+    (par_row ∷ [])
 
 -- The rows are apart already, these are the bytes that instructions need, and the module says what it should: of
 -- its 69 bytes each is executed once.

@@ -86,26 +86,18 @@ fn higher(a: i32, b: i32) -> i32
     a.max(b)
 }
 
-/// The least of these values and one more.
-fn lowest(first: i32, others: &[i32]) -> i32
-    ensures { result ≡ lowest first others.now }
+/// The least and the greatest of these values and one more.
+fn ends_of(first: i32, others: &[i32]) -> (i32, i32)
+    ensures least { result.0 ≡ lowest first others.now }
+    ensures greatest { result.1 ≡ highest first others.now }
 {
     let mut least = first;
-    for value in others {
-        least = lower(least, *value);
-    }
-    least
-}
-
-/// The greatest of these values and one more.
-fn highest(first: i32, others: &[i32]) -> i32
-    ensures { result ≡ highest first others.now }
-{
     let mut greatest = first;
     for value in others {
+        least = lower(least, *value);
         greatest = higher(greatest, *value);
     }
-    greatest
+    (least, greatest)
 }
 
 /// What is known of a table that begins at a byte, if it has values.
@@ -114,11 +106,12 @@ fn row_of(start: usize, table: &[i32]) -> Option<TableRow>
     ensures { result ≡ row_of start table.now }
 {
     let (first, others) = table.split_first()?;
+    let (lo, hi) = ends_of(*first, others);
     Some(TableRow {
         start: start as u32,
         end: (start + 4 * table.len()) as u32,
-        lo: lowest(*first, others),
-        hi: highest(*first, others),
+        lo,
+        hi,
     })
 }
 

@@ -1,10 +1,13 @@
 -- What a program becomes, by the module of its pieces.
-use Rattle.std.proofs.Common.{◌≡◌, ℕ, true, List, Some, IfSome, inl, inr, refl, sym, subst, ap, ◌∙◌}
+use Rattle.std.proofs.Common.{◌≡◌, ℕ, true, List, map, Some, IfSome, inl, inr, refl, sym, subst, ap, ◌∙◌}
 use Rattle.std.specs.List.{AllByRecursion}
 use Rattle.module_format.specs.declared.tables.Version.TheVariants.{Two}
 use Rattle.module_format.specs.Contents.{Contents}
 use Rattle.module_format.proofs.FileLaws.{one_contents}
+use Rattle.occam_parser.specs.declared.parsed.Program.{Program}
+use Rattle.occam_parser.specs.declared.tree.Item.{Item}
 use Rattle.occam_parser.specs.Blocks.{ProgramItem}
+use Rattle.occam_parser.specs.BlockViews.{item_of}
 use Rattle.occam_parser.specs.Words.{items_have_words}
 use Rattle.usage_checks.specs.ItemRules.{BreaksNoRule}
 use Rattle.code_pieces.specs.Pieces.{Piece, Code}
@@ -63,15 +66,34 @@ generated items code bytes unbroken has_words fit is made =
       is_meant = meant items code bytes unbroken has_words fit is says certifies;
     }
 
--- the same of these pieces and links
+-- ---- pieces and links
+
+-- These are the pieces of the code of a program, and its links take messages of these lengths.
+pub record HasPieces (items : List ProgramItem) (code : Code) (ps : List Piece) (links : List ℕ) : Type 0 where
+  pub is : IfSome (code_of items) (λ c. code ≡ c)
+  pub pieces : ps ≡ code.pieces
+  pub lengths : links ≡ link_lengths items
+
+-- where the program is read
+pub has_pieces : {program read : Program} {shown : List Item} {code written : Code} {ps : List Piece} {links : List ℕ}
+    → read ≡ program → shown ≡ read.items.items → links ≡ link_lengths (map item_of shown) → code ≡ written
+    → IfSome (code_of (map item_of program.items.items)) (λ c. written ≡ c) → ps ≡ code.pieces
+    → HasPieces (map item_of program.items.items) code ps links
+has_pieces {program = program} same items lengths seen is pieces =
+    let read = items ∙ ap (λ (p : Program). p.items.items) same in
+    record {
+      is = subst (λ (w : Code). IfSome (code_of (map item_of program.items.items)) (λ c. w ≡ c)) (sym seen) is;
+      pieces = pieces;
+      lengths = lengths ∙ ap (λ (xs : List Item). link_lengths (map item_of xs)) read;
+    }
+
 pub generated_of : (items : List ProgramItem) (code : Code) (ps : List Piece) (links bytes : List ℕ)
     → BreaksNoRule items → items_have_words items ≡ true → AllByRecursion OperandFits ps
-    → IfSome (code_of items) (λ c. code ≡ c) → ps ≡ code.pieces → links ≡ link_lengths items
-    → IsCertifiedModule ps code.labels links bytes → IsGenerated items bytes
-generated_of items code ps links bytes unbroken has_words fit is pieces lengths made =
-    generated items code bytes unbroken has_words (subst (AllByRecursion OperandFits) pieces fit) is
-    (subst (λ (qs : List Piece). IsCertifiedModule qs code.labels (link_lengths items) bytes) pieces
-    (subst (λ (ls : List ℕ). IsCertifiedModule ps code.labels ls bytes) lengths made))
+    → HasPieces items code ps links → IsCertifiedModule ps code.labels links bytes → IsGenerated items bytes
+generated_of items code ps links bytes unbroken has_words fit x made =
+    generated items code bytes unbroken has_words (subst (AllByRecursion OperandFits) x.pieces fit) x.is
+    (subst (λ (qs : List Piece). IsCertifiedModule qs code.labels (link_lengths items) bytes) x.pieces
+    (subst (λ (ls : List ℕ). IsCertifiedModule ps code.labels ls bytes) x.lengths made))
 
 -- ---- what is too large
 
@@ -83,14 +105,14 @@ too_much_of items sequential much = λ few.
 
 -- One that is written, and is too large for the format, has none.
 pub too_large_of : (items : List ProgramItem) (code : Code) (ps : List Piece) (links : List ℕ)
-    → IsSequentialProgram items → IfSome (code_of items) (λ c. code ≡ c) → ps ≡ code.pieces
-    → links ≡ link_lengths items → AreTooLarge (apart ps) code.labels links → IsTooLarge items
-too_large_of items code ps links sequential is pieces lengths large = λ few.
+    → IsSequentialProgram items → HasPieces items code ps links → AreTooLarge (apart ps) code.labels links
+    → IsTooLarge items
+too_large_of items code ps links sequential x large = λ few.
     let found = sequential_programs_have_code items sequential in
-    let same : code ≡ found.0 = subst (λ o. IfSome o (λ c. code ≡ c)) found.1 is in (
+    let same : code ≡ found.0 = subst (λ o. IfSome o (λ c. code ≡ c)) found.1 x.is in (
       found.0,
       found.1,
       inr (subst (λ (c : Code). AreTooLarge (apart c.pieces) c.labels (link_lengths items)) same
-          (subst (λ (qs : List Piece). AreTooLarge (apart qs) code.labels (link_lengths items)) pieces
-          (subst (λ (ls : List ℕ). AreTooLarge (apart ps) code.labels ls) lengths large))),
+          (subst (λ (qs : List Piece). AreTooLarge (apart qs) code.labels (link_lengths items)) x.pieces
+          (subst (λ (ls : List ℕ). AreTooLarge (apart ps) code.labels ls) x.lengths large))),
     )

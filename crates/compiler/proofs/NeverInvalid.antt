@@ -18,6 +18,7 @@ use Rattle.valid_code.proofs.Refused.{programs_are_made}
 use Rattle.certified_code.specs.CertifiedModules.{IsRefusedModule, IsUncertified}
 use Rattle.certified_programs.proofs.Programs.{programs_are_not_refused}
 use Rattle.compiler.specs.LinkLengths.{link_lengths}
+use Rattle.compiler.proofs.Generated.{HasPieces}
 use Rattle.compiler.proofs.LinksFit.{links_are_eight, links_fit}
 
 -- the verifier refuses none
@@ -47,12 +48,11 @@ never items code unbroken sequential has_words fit tables is (inr refused) =
 -- the same of these pieces and links
 pub never_invalid : (items : List ProgramItem) (code : Code) (ps : List Piece) (links : List ℕ) → BreaksNoRule items
     → items_have_words items ≡ true → AllByRecursion OperandFits ps → AllByRecursion SaysTables ps
-    → IfSome (code_of items) (λ c. code ≡ c) → ps ≡ code.pieces → links ≡ link_lengths items
-    → IsSequentialProgram items → IsUncertified ps code.labels links → ⊥
-never_invalid items code ps links unbroken has_words fit tables is pieces lengths sequential uncertified =
+    → HasPieces items code ps links → IsSequentialProgram items → IsUncertified ps code.labels links → ⊥
+never_invalid items code ps links unbroken has_words fit tables x sequential uncertified =
     let found = sequential_programs_have_code items sequential in
-    let same : code ≡ found.0 = subst (λ o. IfSome o (λ c. code ≡ c)) found.1 is in
-    never items code unbroken sequential has_words (subst (AllByRecursion OperandFits) pieces fit)
-    (subst (AllByRecursion SaysTables) pieces tables) (found.1 ∙ ap Some (sym same))
-    (subst (λ (qs : List Piece). IsUncertified qs code.labels (link_lengths items)) pieces
-    (subst (λ (ls : List ℕ). IsUncertified ps code.labels ls) lengths uncertified))
+    let same : code ≡ found.0 = subst (λ o. IfSome o (λ c. code ≡ c)) found.1 x.is in
+    never items code unbroken sequential has_words (subst (AllByRecursion OperandFits) x.pieces fit)
+    (subst (AllByRecursion SaysTables) x.pieces tables) (found.1 ∙ ap Some (sym same))
+    (subst (λ (qs : List Piece). IsUncertified qs code.labels (link_lengths items)) x.pieces
+    (subst (λ (ls : List ℕ). IsUncertified ps code.labels ls) x.lengths uncertified))

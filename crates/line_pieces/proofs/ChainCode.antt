@@ -1,11 +1,14 @@
 -- The code of a chain, operand by operand.
 use Rattle.std.proofs.Common.{◌≡◌, ℕ, ◌+◌, ◌<◌, ◌≤◌, ℤ, Bool, true, false, List, [], ◌∷◌, ◌++◌, length, map, take}
-use Rattle.std.proofs.Common.{get_or, Option, Some, None, Result, Ok, Err, IfOk, refl, sym, ap, arith, ◌∙◌}
+use Rattle.std.proofs.Common.{get_or, Option, Some, None, Result, Ok, Err, IfOk, refl, sym, ap, arith, ◌∙◌, Vec}
+use Rattle.std.proofs.Common.{Global}
 use Rattle.std.proofs.lemmas.List.{append_assoc, append-nil, length-take, length-map, map_push, take_all}
 use Rattle.occam_parser.specs.declared.tree.ChainOperator.{ChainOperator}
 use Rattle.occam_parser.specs.declared.tree.Operand as code_operand
+use Rattle.occam_parser.specs.declared.tree.Operation as code_operation
 use Rattle.occam_parser.specs.Expressions.{Expression, Chained, Terms, Two, Then, Term}
-use Rattle.occam_parser.specs.Views.{term_of, with_others}
+use Rattle.occam_parser.specs.Views.{operation_of, term_of, with_others}
+use Rattle.occam_parser.proofs.Seen.{view-Chain}
 use Rattle.scalar_ranges.specs.Fronts.{Front, count_of}
 use Rattle.scalar_ranges.proofs.Chains.{taken_one}
 use Rattle.prefix_decoder.specs.declared.function.Fun.TheVariants as fun
@@ -17,6 +20,15 @@ use Rattle.line_pieces.specs.Expressions.{is_leaf_term, is_small_term}
 use Rattle.line_pieces.specs.SettingViews.{expression_in, term_in, terms_in, onto_in, joined_in, others_in, value_in}
 use Rattle.line_pieces.specs.SettingViews.{entries_in, front_at, beside_in, both_of, either_of, either_in}
 use Rattle.line_pieces.specs.SettingViews.{first_two_of, first_two_in}
+
+-- a chain, of whose operands these come after the first two
+pub chain_seen : (e : code_operation.Operation) (op : ChainOperator) (x y : code_operand.Operand)
+    (others : Vec code_operand.Operand Global) (shown : List code_operand.Operand)
+    → e ≡ code_operation.Chain op x y others → shown ≡ others.items
+    → operation_of e ≡ Chained op (with_others (Two (term_of x) (term_of y)) (map term_of shown))
+chain_seen e op x y others shown is same =
+    ap operation_of is ∙ view-Chain op x y others
+    ∙ ap (λ os. Chained op (with_others (Two (term_of x) (term_of y)) (map term_of os))) (sym same)
 
 -- one operand more
 others_more : (s : Setting) (op : ChainOperator) (front : Option Front) (n m : ℕ) (xs : List Term) (x : Term)

@@ -1,7 +1,7 @@
 -- What the code of any action does.
 use Rattle.std.proofs.Common.{◌≡◌, ℕ, List, [], Some, sym, subst}
 use Rattle.occam_parser.specs.Lines.{Skip, Stop, Assign, Input, Output, Instance}
-use Rattle.code_pieces.specs.Pieces.{Piece, Code}
+use Rattle.code_pieces.specs.Pieces.{Piece, Code, written}
 use Rattle.line_pieces.specs.Homes.{Home}
 use Rattle.line_pieces.specs.Declarations.{facts_in}
 use Rattle.line_pieces.specs.Actions.{assign_code, input_code, output_code}
@@ -24,14 +24,15 @@ lies_as c at to a b is lie = subst (λ (k : Code). Lie c at k.pieces to) (sym (s
 within_as : (g : Ground) (a b : Code) → Some a ≡ Some b → AreWithin g b.pieces → AreWithin g a.pieces
 within_as g a b is all = subst (λ (k : Code). AreWithin g k.pieces) (sym (same_code a b is)) all
 
--- by the homes of the ground
-module _ (c : LaidCode) (g : Ground) (at to : ℕ) (hs : List Home) (homes : hs ≡ g.homes)
-    (ps : List Home → List Piece) where
-  lies_there : Lie c at (ps hs) to → Lie c at (ps g.homes) to
-  lies_there lie = subst (λ (x : List Home). Lie c at (ps x) to) homes lie
-
-  within_there : AreWithin g (ps hs) → AreWithin g (ps g.homes)
-  within_there all = subst (λ (x : List Home). AreWithin g (ps x)) homes all
+-- What holds by the homes of the ground, whose pieces are within it and lie in the code, holds by those of the frame.
+by_homes : {A : Type 0} (c : LaidCode) (g : Ground) (at to label : ℕ) (hs : List Home) (ps : List Home → List Piece)
+    (code : Code) → hs ≡ g.homes → written (ps hs) label ≡ Some code
+    → AreWithin g code.pieces → Lie c at code.pieces to
+    → (AreWithin g (ps g.homes) → Lie c at (ps g.homes) to → A) → A
+by_homes c g at to label hs ps code homes is all lie goes =
+    let a : Code = record { pieces = ps hs; labels = label } in
+    goes (subst (λ (x : List Home). AreWithin g (ps x)) homes (within_as g a code is all))
+    (subst (λ (x : List Home). Lie c at (ps x) to) homes (lies_as c at to a code is lie))
 
 pub actions_behave : ActionsBehave
 actions_behave c g f at to label es env h ports Skip code homes begins undisturbed ready is all lie inside =
@@ -41,24 +42,15 @@ actions_behave c g f at to label es env h ports Stop code homes begins undisturb
     stops_behave c g f.top at to label es env h ports (facts_in f es) (lies_as c at to _ code is lie) inside
 actions_behave c g f at to label es env h ports (Assign target value) code homes begins undisturbed ready is all lie
     inside =
-    let ps = λ (hs : List Home). assign_code hs es f.top target value in
-    let a : Code = record { pieces = assign_code f.homes es f.top target value; labels = label } in
-    assignments_behave c g f.top at to es env h ports target value begins ready
-    (within_there c g at to f.homes homes ps (within_as g a code is all))
-    (lies_there c g at to f.homes homes ps (lies_as c at to a code is lie))
+    by_homes c g at to label f.homes (λ hs. assign_code hs es f.top target value) code homes is all lie
+    (assignments_behave c g f.top at to es env h ports target value begins ready)
 actions_behave c g f at to label es env h ports (Input channel target) code homes begins undisturbed ready is all lie
     inside =
-    let ps = λ (hs : List Home). input_code hs es f.top channel target in
-    let a : Code = record { pieces = input_code f.homes es f.top channel target; labels = label } in
-    inputs_behave c g f.top at to es env h ports channel target begins undisturbed ready
-    (within_there c g at to f.homes homes ps (within_as g a code is all))
-    (lies_there c g at to f.homes homes ps (lies_as c at to a code is lie))
+    by_homes c g at to label f.homes (λ hs. input_code hs es f.top channel target) code homes is all lie
+    (inputs_behave c g f.top at to es env h ports channel target begins undisturbed ready)
 actions_behave c g f at to label es env h ports (Output channel value) code homes begins undisturbed ready is all lie
     inside =
-    let ps = λ (hs : List Home). output_code hs es f.top channel value in
-    let a : Code = record { pieces = output_code f.homes es f.top channel value; labels = label } in
-    outputs_behave c g f.top at to es env h ports channel value begins undisturbed ready
-    (within_there c g at to f.homes homes ps (within_as g a code is all))
-    (lies_there c g at to f.homes homes ps (lies_as c at to a code is lie))
+    by_homes c g at to label f.homes (λ hs. output_code hs es f.top channel value) code homes is all lie
+    (outputs_behave c g f.top at to es env h ports channel value begins undisturbed ready)
 actions_behave c g f at to label es env h ports (Instance name actuals) code homes begins undisturbed ready is all lie
     inside = absurd ready

@@ -356,6 +356,22 @@ module _ (c : LaidCode) (g : Ground) (top at to : ℕ) (es : List Entry) (env : 
   abbrev target_for : List ℕ → Expression → Target
   target_for name e = target_of g.homes es next (element name e)
 
+  -- to one with this target, where its code stores the number
+  element_to : (name : List ℕ) (e : Expression) (type : ValueType) (size n w i : ℕ)
+      → IsInWords g es name type size n w → IsSubscript g top es env next size e i → IsOfType type v
+      → AreWithin g (code ++ store_code (target_for name e) top)
+      → Lie c at (code ++ store_code (target_for name e) top) to → (x : Target) → target_for name e ≡ x
+      → ((first : FirstPushed) → AreWithin g (store_code x top)
+      → StoresIn g (store_code x top) top type w i v first.after)
+      → Behaves c (EndsAt g top es to) (point at h) (acting ports (Assign (element name e) value) env)
+  element_to name e type size n w i array sub typed all lie x is stores_in =
+      let first = pushed.pushes (first_within g code (store_code (target_for name e) top) all) h begins.carries in
+      element_ends (element name e) type w i (store_code x top) first
+      (stores_in first (subst (λ (y : Target). AreWithin g (store_code y top)) is
+      (rest_within g code (store_code (target_for name e) top) all)))
+      (element_put g top es env name e type size n w i v begins.meets array sub.pushed.is sub.inside typed)
+      (subst (λ (y : Target). Lie c at (code ++ store_code y top) to) is lie)
+
   element_by : (name : List ℕ) (e : Expression) (type : ValueType) (size n w i : ℕ)
       → IsInWords g es name type size n w → IsSubscript g top es env next size e i → IsOfType type v
       → AreWithin g (code ++ store_code (target_for name e) top)
@@ -364,24 +380,14 @@ module _ (c : LaidCode) (g : Ground) (top at to : ℕ) (es : List Entry) (env : 
       ⊎ (target_for name e ≡ OtherElement type w (subscript_of g.homes es next e))
       → Behaves c (EndsAt g top es to) (point at h) (acting ports (Assign (element name e) value) env)
   element_by name e type size n w i array sub typed all lie (inl known) =
-      let first = pushed.pushes (first_within g code (store_code (target_for name e) top) all) h begins.carries in
-      element_ends (element name e) type w i (store_code (KnownElement type w i) top) first
-      (known_stored g top next es env name type size n w i e v first.after begins.meets next_low next_later array sub
-      (kept_after first) first.a pushed.word
-      (subst (λ (x : Target). AreWithin g (store_code x top)) known
-      (rest_within g code (store_code (target_for name e) top) all)))
-      (element_put g top es env name e type size n w i v begins.meets array sub.pushed.is sub.inside typed)
-      (subst (λ (x : Target). Lie c at (code ++ store_code x top) to) known lie)
+      element_to name e type size n w i array sub typed all lie (KnownElement type w i) known
+      (λ first. known_stored g top next es env name type size n w i e v first.after begins.meets next_low next_later
+      array sub (kept_after first) first.a pushed.word)
   element_by name e type size n w i array sub typed all lie (inr other) =
-      let first = pushed.pushes (first_within g code (store_code (target_for name e) top) all) h begins.carries in
-      element_ends (element name e) type w i
-      (store_code (OtherElement type w (subscript_of g.homes es next e)) top) first
-      (other_stored g top next es env name type size n w i e v first.after begins.meets next_low next_later array sub
-      (kept_after first) first.a pushed.word
-      (subst (λ (x : Target). AreWithin g (store_code x top)) other
-      (rest_within g code (store_code (target_for name e) top) all)))
-      (element_put g top es env name e type size n w i v begins.meets array sub.pushed.is sub.inside typed)
-      (subst (λ (x : Target). Lie c at (code ++ store_code x top) to) other lie)
+      element_to name e type size n w i array sub typed all lie (OtherElement type w (subscript_of g.homes es next e))
+      other
+      (λ first. other_stored g top next es env name type size n w i e v first.after begins.meets next_low next_later
+      array sub (kept_after first) first.a pushed.word)
 
   assign_by : (name : List ℕ) (o : Option Expression) (type : ValueType) → IsVariable g top es env next name type o
       → IsOfType type v → AreWithin g (assign_code g.homes es top (record { name = name; subscript = o }) value)

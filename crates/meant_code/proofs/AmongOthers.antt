@@ -21,6 +21,7 @@ use Rattle.meant_code.specs.OwnCode.{OperandFits}
 use Rattle.meant_code.specs.AmongOthers.{PiecesLead, NamesBelow, WordsAreTaken, ApartTakesNoMore, at_row_after}
 use Rattle.meant_code.specs.AmongOthers.{PartsAreApart, PartsStayParts}
 use Rattle.meant_code.proofs.LabelLists.{times_both, leads_more}
+use Rattle.meant_code.proofs.RowsApart.{apart_same}
 use Rattle.meant_code.proofs.OwnPrograms.{programs_are_own, programs_have_parts}
 
 -- ---- where pieces lead
@@ -89,20 +90,9 @@ named_after (Within workspace) ps qs is =
     ap (λ (n : ℕ). max (unsigned_abs workspace.depth + WORKSPACE_WORDS) n) is
 named_after p ps qs is = is
 
-filled_named : (b : Bool) (p : Piece) (rest : List Piece)
-    → words_named (cond b (constant (pos 0) ∷ p ∷ []) (p ∷ []) ++ rest) ≡ words_named (p ∷ rest)
-filled_named true p rest = constant_named (pos 0) (p ∷ rest)
-filled_named false p rest = refl
-
-apart_named : (at_row : Bool) (ps : List Piece) → words_named (apart_from at_row ps) ≡ words_named ps
-apart_named at_row [] = refl
-apart_named at_row (p ∷ ps) =
-    let next = at_row_behind p at_row in
-    filled_named (at_row && is_row p) p (apart_from next ps)
-    ∙ named_after p (apart_from next ps) ps (apart_named next ps)
-
 pub apart_takes_no_more : ApartTakesNoMore
-apart_takes_no_more ps = ap (λ (n : ℕ). max WORKSPACE_WORDS n) (apart_named true ps)
+apart_takes_no_more ps =
+    ap (λ (n : ℕ). max WORKSPACE_WORDS n) (apart_same words_named (constant_named (pos 0)) named_after true ps)
 
 -- ---- parts
 

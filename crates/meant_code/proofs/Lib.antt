@@ -2,7 +2,9 @@ pub mod LinesHave
 pub mod StraightLines
 pub mod LabelLists
 pub mod OwnPieces
+pub mod BlocksHold
 pub mod OwnCode
+pub mod RowsApart
 pub mod OwnPrograms
 pub mod AmongOthers
 pub mod NumbersStay

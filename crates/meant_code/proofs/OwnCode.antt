@@ -1,5 +1,5 @@
 -- The code of each process has labels of its own: one induction over processes.
-use Rattle.std.proofs.Common.{◌≡◌, ◌≤◌, ℕ, zero, suc, ◌+◌, ℤ, pos, negsuc, Bool, true, false, cond, List, [], ◌∷◌}
+use Rattle.std.proofs.Common.{◌≡◌, ◌≤◌, ℕ, zero, suc, ◌+◌, ℤ, Bool, true, false, cond, List, [], ◌∷◌}
 use Rattle.std.proofs.Common.{◌++◌, Option, Some, None, ap, ◌∙◌, subst, arith}
 use Rattle.std.specs.Prelude.{⊤, length, nat_eq, slice_get}
 use Rattle.std.proofs.lemmas.List.{append_assoc}
@@ -9,15 +9,13 @@ use Rattle.occam_parser.specs.Blocks.{Further, GlobalConstant, GlobalProcedure, 
 use Rattle.occam_parser.specs.Blocks.{Plain, Process, ProgramItem, Replicated}
 use Rattle.occam_parser.specs.Expressions.{Expression}
 use Rattle.occam_parser.specs.Lines.{Action, Assign, Input, Instance, Output, Replicator, Skip, Stop, block_word}
-use Rattle.occam_parser.specs.Terminals.{Mark, Terminal}
+use Rattle.occam_parser.specs.Terminals.{Mark}
 use Rattle.scalar_ranges.specs.Entries.{Entry, Meaning, Procedure, meaning_in}
 use Rattle.scalar_ranges.specs.Moves.{Known}
 use Rattle.scalar_ranges.specs.Narrowing.{test_of}
-use Rattle.program_uses.specs.Actions.{Around, is_before}
-use Rattle.program_uses.specs.Changes.{changed_by_body}
-use Rattle.program_uses.specs.Indices.{index_in, is_seq, repeats_of}
+use Rattle.program_uses.specs.Actions.{Around}
 use Rattle.program_uses.specs.Signatures.{Parameter, parameters_in}
-use Rattle.usage_checks.specs.AfterProcesses.{after_body, after_components, begun, begun_body, ended}
+use Rattle.usage_checks.specs.AfterProcesses.{after_components, begun, ended}
 use Rattle.usage_checks.specs.ItemRules.{Outside, after_item, around_in, weighed, outermost}
 use Rattle.code_pieces.specs.Pieces.{Code, Jump, JumpUnless, Piece, Row, before, closed_by, operates, then_code}
 use Rattle.code_pieces.specs.declared.operations.TheConstants.{STOP_PROCESS}
@@ -31,15 +29,17 @@ use Rattle.code_generator.specs.Calls.{in_callee, outside_frame, where_called}
 use Rattle.code_generator.specs.Instances.{bindings_code, cleaning_code}
 use Rattle.code_generator.specs.Processes.{Always, EndedChoices, IfEnding, NoChoice, Opens, PlacedChoice}
 use Rattle.code_generator.specs.Processes.{PlacedChoices, Site, Stops, Surroundings, ThenChoice, all_tested}
-use Rattle.code_generator.specs.Processes.{at_place, body_code, by_block, called, choices_code, component_code}
-use Rattle.code_generator.specs.Processes.{components_code, construct_code, ending_code, has_scalar, if_code}
-use Rattle.code_generator.specs.Processes.{in_each_turn, in_loop, is_true, line_code, loop_code, loop_start, no_loop}
-use Rattle.code_generator.specs.Processes.{opening, placed, placed_choices, process_code, repeated_seq, row_of}
-use Rattle.code_generator.specs.Processes.{taken_code, tested_code, times, turn_begun, value_or_zero}
+use Rattle.code_generator.specs.Processes.{at_place, body_code, called, choices_code, component_code}
+use Rattle.code_generator.specs.Processes.{components_code, construct_code, ending_code, if_code}
+use Rattle.code_generator.specs.Processes.{in_each_turn, line_code, loop_code, loop_start, no_loop}
+use Rattle.code_generator.specs.Processes.{placed, placed_choices, process_code, row_of}
+use Rattle.code_generator.specs.Processes.{taken_code, tested_code}
 use Rattle.code_generator.specs.Processes.{with_declaration, with_ending, with_opening}
 use Rattle.code_generator.specs.Programs.{callable, code_of, framed, in_main, items_code, last_item_code, no_frame}
 use Rattle.meant_code.specs.Labels.{AreStraight, times_in}
 use Rattle.meant_code.specs.OwnCode.{AreOwn, ProcessesAreOwn}
+use Rattle.meant_code.proofs.BlocksHold.{EachChoice, EndedHold, EndingHolds, body_holds, by_word, ending_holds}
+use Rattle.meant_code.proofs.BlocksHold.{loop_inside, opening_holds, turns_hold}
 use Rattle.meant_code.proofs.LabelLists.{one_once}
 use Rattle.meant_code.proofs.OwnPieces.{own_anywhere, own_both, own_closed, own_jump, own_loop, own_row, own_straight}
 use Rattle.meant_code.proofs.OwnPieces.{own_test}
@@ -146,36 +146,6 @@ components_own w (Further cs c) s all =
 abbrev HasOwn : PlacedChoice → Type 0
 HasOwn c = (s : Site) → IsOwn s.label [] (c.process s)
 
-abbrev AllOwn : PlacedChoices → Type 0
-AllOwn NoChoice = ⊤
-AllOwn (ThenChoice cs c) = AllOwn cs × HasOwn c
-
-abbrev EndingOwn : IfEnding → Type 0
-EndingOwn Stops = ⊤
-EndingOwn (Always c) = HasOwn c
-EndingOwn (Opens c) = HasOwn c
-
-abbrev ChoicesOwn : EndedChoices → Type 0
-ChoicesOwn x = AllOwn x.tested × EndingOwn x.ending
-
-ending_own : (cs : PlacedChoices) → AllOwn cs → ChoicesOwn (with_ending cs)
-ending_own NoChoice all = (tt, tt)
-ending_own (ThenChoice cs c) all = by_truth (is_true c.condition)
-  where
-    by_truth : (holds : Bool) → ChoicesOwn (cond holds (record { tested = cs; ending = Always c })
-        (record { tested = ThenChoice cs c; ending = Stops }))
-    by_truth true = (all.0, all.1)
-    by_truth false = (all, tt)
-
-opening_own : (cs : PlacedChoices) (x : IfEnding) → AllOwn cs → EndingOwn x → ChoicesOwn (opening cs x)
-opening_own (ThenChoice cs opened) (Always c) all last = by_skip c.is_skip
-  where
-    by_skip : (skips : Bool) → ChoicesOwn (cond skips (record { tested = cs; ending = Opens opened })
-        (record { tested = ThenChoice cs opened; ending = Always c }))
-    by_skip true = (all.0, all.1)
-    by_skip false = (all, last)
-opening_own cs x all last = (all, last)
-
 -- a test that jumps to what is after it
 test_own : (f : Frame) (es : List Entry) (e : Expression) (n to : ℕ) (after : List ℕ) → 1 ≤ times_in to after
     → AreOwn n n after (test_code f.homes es f.top e to)
@@ -219,14 +189,14 @@ tested_own end f c label own =
     (facts_in f c.after.entries)
     (test_own f c.known.entries c.condition (label + 1) label (label ∷ end ∷ []) (first_is label (end ∷ []))) (own _)
 
-all_tested_own : (end : ℕ) (f : Frame) (cs : PlacedChoices) (label : ℕ) → AllOwn cs
+all_tested_own : (end : ℕ) (f : Frame) (cs : PlacedChoices) (label : ℕ) → EachChoice HasOwn cs
     → IsOwn label (end ∷ []) (all_tested end f cs label)
 all_tested_own end f NoChoice label all = own_straight label (end ∷ []) [] tt
 all_tested_own end f (ThenChoice cs c) label all =
     then_own label (end ∷ []) (all_tested end f cs label) (tested_code end f c) (all_tested_own end f cs label all.0)
     (λ next. tested_own end f c next all.1)
 
-what_ends_own : (end : ℕ) (f : Frame) (x : IfEnding) (label : ℕ) → EndingOwn x
+what_ends_own : (end : ℕ) (f : Frame) (x : IfEnding) (label : ℕ) → EndingHolds HasOwn x
     → IsOwn label (end ∷ []) (ending_code end f x label)
 what_ends_own end f Stops label own = own_straight label (end ∷ []) (operates STOP_PROCESS ∷ []) (tt, tt)
 what_ends_own end f (Always c) label own = anywhere label (end ∷ []) (taken_code f c label) (own _)
@@ -240,7 +210,7 @@ closed_own : (n : ℕ) (code : Option Code) (entries : List RowEntry) → IsOwn 
 closed_own n None entries own = tt
 closed_own n (Some c) entries own = own_closed n c.labels [] c.pieces entries own
 
-if_own : (s : Site) (f : Frame) (after : Known) (x : EndedChoices) → ChoicesOwn x
+if_own : (s : Site) (f : Frame) (after : Known) (x : EndedChoices) → EndedHold HasOwn x
     → IsOwn s.label [] (if_code s f after x)
 if_own s f after x all =
     closed_own s.label (choices_code s.label f x (s.label + 1)) (facts_in s.frame after.entries)
@@ -255,29 +225,18 @@ placed_own w (Chosen line e p) k all = all
 placed_own w (Guarded line g p) k all = λ s. tt
 
 placed_all_own : {part : Part} (w : Surroundings) (cs : Components part) (k : Known) → AreWritten w cs
-    → AllOwn (placed_choices w cs k)
+    → EachChoice HasOwn (placed_choices w cs k)
 placed_all_own w NoComponent k all = tt
 placed_all_own w (Further cs c) k all = (
   placed_all_own w cs k all.0,
   placed_own w c (after_components w.around (Mark mark.If) cs k) all.1,
 )
 
-turns_own : (choice : ℕ → PlacedChoice) (count : ℕ) → ((n : ℕ) → HasOwn (choice n))
-    → AllOwn (in_each_turn choice count)
-turns_own choice zero all = tt
-turns_own choice (suc n) all = (turns_own choice n all, all n)
-
 -- ---- loops
 
 no_loop_own : (changes : Bool) (s : Site) (after : Known) → IsOwn s.label [] (no_loop changes s after)
 no_loop_own false s after = own_straight s.label [] [] tt
 no_loop_own true s after = own_row s.label [] (facts_in s.frame after.entries)
-
-repeated_own : (s : Site) (changed : List ℕ) (after : Known) (base : ℤ) (loop : Option Code) (count : ℤ)
-    → IsOwn s.label [] loop → IsOwn s.label [] (repeated_seq s changed after base loop count)
-repeated_own s changed after base loop (pos zero) own = no_loop_own (has_scalar changed s.known.entries) s after
-repeated_own s changed after base loop (pos (suc n)) own = own
-repeated_own s changed after base loop (negsuc n) own = own
 
 loop_own : (s inner : Site) (after : Known) (base count : ℤ) (body : Option Code) → IsOwn (s.label + 2) [] body
     → IsOwn s.label [] (loop_code s inner after base count body)
@@ -286,14 +245,6 @@ loop_own s inner after base count (Some c) own =
     own_loop s.label c.labels s.frame.top [] (loop_start s.frame.top base count) c.pieces
     (facts_in inner.frame inner.known.entries) (facts_in s.frame after.entries)
     (loop_start_is s.frame.top base count) own
-
--- ---- blocks
-
-in_block : (n : ℕ) (word : Terminal) (all choices : Option Code) → IsOwn n [] all → IsOwn n [] choices
-    → IsOwn n [] (by_block word all choices)
-in_block n (Mark mark.Seq) all choices first second = first
-in_block n (Mark mark.If) all choices first second = second
-in_block n word all choices first second = tt
 
 -- ---- processes
 
@@ -314,34 +265,27 @@ module _ (w : Surroundings) (calls : CallsAreOwn w) where
         let start = begun word s.known in
         let all = components_written cs in
         let choices = with_ending (placed_choices w cs start) in
-        let have = ending_own (placed_choices w cs start) (placed_all_own w cs start all) in
+        let have = ending_holds HasOwn (placed_choices w cs start) (placed_all_own w cs start all) in
         let after = ended word (after_components w.around word cs start) in
-        in_block s.label word (components_code w cs s) (if_code s s.frame after (with_opening choices))
+        by_word (IsOwn s.label []) tt word (components_code w cs s) (if_code s s.frame after (with_opening choices))
         (components_own w cs s all)
-        (if_own s s.frame after (with_opening choices) (opening_own choices.tested choices.ending have.0 have.1))
+        (if_own s s.frame after (with_opening choices)
+        (opening_holds HasOwn choices.tested choices.ending have.0 have.1))
     construct_own line (Replicated r b) s = body_own line r b s
 
     body_own : (line : ℕ) (r : Replicator) (b : Body) (s : Site) → IsOwn s.label [] (body_code w line r b s)
     body_own line r (One kind c) s =
-        let word = block_word kind in
-        let changed = changed_by_body w.around.signatures s.known.entries r (One kind c) in
-        let repeats = repeats_of (is_before line w.around.uncounted) s.known.entries (is_seq word) r in
-        let start = begun_body word changed repeats.happens s.known in
-        let after = after_body w.around line r (One kind c) s.known in
-        let base = value_or_zero s.known.entries r.base in
-        let count = value_or_zero s.known.entries r.count in
-        let inner = in_loop s start r.name (index_in repeats 0) in
-        let loop = loop_code s inner after base count (component_code w c inner) in
-        let choice : ℕ → PlacedChoice = λ n. placed w c (turn_begun w.around word r.name c repeats start n) in
-        let turns = in_each_turn choice (times repeats) in
         let written = component_written c in
-        in_block s.label word (repeated_seq s changed after base loop count)
-        (if_code s (with_home Nowhere s.frame) after (with_ending turns))
-        (repeated_own s changed after base loop count
-        (loop_own s inner after base count (component_code w c inner) (component_own w c inner written)))
-        (if_own s (with_home Nowhere s.frame) after (with_ending turns) (ending_own turns
-        (turns_own choice (times repeats)
-        (λ n. placed_own w c (turn_begun w.around word r.name c repeats start n) written))))
+        body_holds (IsOwn s.label []) tt w line r kind c s (λ after changes. no_loop_own changes s after)
+        (λ start after base count.
+        let inner = loop_inside s start in
+        loop_own s inner after base count (component_code w c inner) (component_own w c inner written))
+        (λ after starts count.
+        let choice : ℕ → PlacedChoice = λ n. placed w c (starts n) in
+        let turns = in_each_turn choice count in
+        if_own s (with_home Nowhere s.frame) after (with_ending turns)
+        (ending_holds HasOwn turns
+        (turns_hold HasOwn choice count (λ n. placed_own w c (starts n) written))))
 
     components_written : {part : Part} (cs : Components part) → AreWritten w cs
     components_written NoComponent = tt

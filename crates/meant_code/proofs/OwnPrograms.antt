@@ -1,6 +1,6 @@
 -- Programs place labels of their own, also where their rows are kept apart, and have parts at the root.
 use Rattle.std.proofs.Common.{◌≡◌, ℕ, ℤ, pos, Bool, true, false, cond, List, [], ◌∷◌, ◌++◌, Option, refl, sym, ap}
-use Rattle.std.proofs.Common.{◌∙◌, FitsSigned, subst, arith}
+use Rattle.std.proofs.Common.{FitsSigned, subst, arith}
 use Rattle.std.specs.Prelude.{◌&&◌, ◌-ℤ◌}
 use Rattle.std.specs.Int.{w32}
 use Rattle.std.specs.List.{AllByRecursion}
@@ -20,23 +20,17 @@ use Rattle.meant_code.specs.OwnCode.{OperandFits, ProgramsHaveParts}
 use Rattle.meant_code.proofs.StraightLines.{constant_is}
 use Rattle.meant_code.proofs.LabelLists.{once_differ, once_below, lead_both, no_labels, straight_label}
 use Rattle.meant_code.proofs.LabelLists.{straight_plain, straight_lead}
+use Rattle.meant_code.proofs.RowsApart.{apart_same}
 use Rattle.meant_code.proofs.OwnCode.{program_own}
 
 -- ---- rows kept apart
 
-filled_labels : (b : Bool) (p : Piece) (rest : List Piece)
-    → labels_in (cond b (constant (pos 0) ∷ p ∷ []) (p ∷ []) ++ rest) ≡ option_to_list (label_in p) ++ labels_in rest
-filled_labels true p rest =
-    ap (λ (o : Option ℕ). option_to_list o ++ (option_to_list (label_in p) ++ labels_in rest))
-    (straight_label (constant (pos 0)) (constant_is (pos 0)))
-filled_labels false p rest = refl
-
 apart_labels : (at_row : Bool) (ps : List Piece) → labels_in (apart_from at_row ps) ≡ labels_in ps
-apart_labels at_row [] = refl
-apart_labels at_row (p ∷ ps) =
-    let next = at_row_behind p at_row in
-    filled_labels (at_row && is_row p) p (apart_from next ps)
-    ∙ ap (λ (ls : List ℕ). option_to_list (label_in p) ++ ls) (apart_labels next ps)
+apart_labels =
+    apart_same labels_in
+    (λ ps. ap (λ (o : Option ℕ). option_to_list o ++ labels_in ps)
+    (straight_label (constant (pos 0)) (constant_is (pos 0))))
+    (λ p ps qs is. ap (λ (ls : List ℕ). option_to_list (label_in p) ++ ls) is)
 
 filled_plain : (b : Bool) (p : Piece) (rest : List Piece) → IsPlain p → ArePlain rest
     → ArePlain (cond b (constant (pos 0) ∷ p ∷ []) (p ∷ []) ++ rest)

@@ -1,5 +1,5 @@
 -- What the code of an operator between two numbers pushes.
-use Rattle.std.proofs.Common.{◌≡◌, ℕ, ◌≤◌, ℤ, pos, negsuc, Bool, true, false, ◌&&◌, ◌||◌, cond, List, [], ◌∷◌, ◌++◌}
+use Rattle.std.proofs.Common.{◌≡◌, ℕ, ◌≤◌, ℤ, pos, negsuc, Bool, true, false, ◌&&◌, cond, List, [], ◌∷◌, ◌++◌}
 use Rattle.std.proofs.Common.{Option, Some, None, FitsSigned, refl, ap, ◌∙◌, arith}
 use Rattle.std.specs.Prelude.{◌+ℤ◌, ◌-ℤ◌}
 use Rattle.std.specs.Int.{w32}
@@ -8,7 +8,6 @@ use Rattle.word_arithmetic.specs.Word.{is_word, checked, checked_sum, checked_di
 use Rattle.word_arithmetic.specs.Range.{in_range}
 use Rattle.word_arithmetic.specs.Binary.{computed}
 use Rattle.word_arithmetic.specs.declared.binary.Binary.{Binary}
-use Rattle.word_arithmetic.specs.declared.binary.Binary.TheVariants as binary
 use Rattle.machine_state.specs.LocalStep.{address, shift_result}
 use Rattle.machine_state.specs.declared.op.Shift.{Shift}
 use Rattle.machine_state.specs.declared.op.Shift.TheVariants as shifts
@@ -24,11 +23,14 @@ use Rattle.line_pieces.specs.Expressions.{added_for, pushes_of}
 use Rattle.occam_parser.specs.declared.tree.PairOperator.TheVariants as pair
 use Rattle.placed_code.specs.StraightPieces as pieces
 use Rattle.placed_code.proofs.StraightPieces.{lead_both}
-use Rattle.meant_lines.specs.Instructions.{IsBinary, IsShift, with_a, with_result}
+use Rattle.placed_code.proofs.OperandsName.{operands_name}
+use Rattle.placed_code.proofs.OperandsKeep.{kept_of}
+use Rattle.placed_code.specs.OperandsName.{IsBinary, IsShift}
+use Rattle.meant_lines.specs.Instructions.{with_a, with_result}
 use Rattle.meant_lines.specs.Carrying.{Ground, Carries}
 use Rattle.meant_lines.specs.Pushing.{Pushed, AllStandOn, IsCounted, OperandPushes, keeps}
 use Rattle.meant_lines.specs.OperatorLaws.{IsValue, ArithmeticPushes}
-use Rattle.meant_lines.proofs.Instructions.{operands_name_operations, constants_are_added, words_are_shifted}
+use Rattle.meant_lines.proofs.Instructions.{constants_are_added, words_are_shifted}
 use Rattle.meant_lines.proofs.Operators.{both_push, operations_push, first_stand}
 
 -- ---- values
@@ -55,11 +57,6 @@ count_by : (t : Bool) (shift : ℤ → ℕ → ℤ) (x : ℤ) (n : ℕ) (v : ℤ
     → shift x n ≡ v
 count_by true shift x n v is = cc
 count_by false shift x n v is = absurd (cc)
-
-pub kept_of : (small leaf second : Bool) → (small && second) ≡ true → ((small || leaf) && second) ≡ true
-kept_of true leaf true is = refl
-kept_of true leaf false is = absurd (cc is)
-kept_of false leaf second is = absurd (cc is)
 
 pub fewer_kept : (g : Ground) (ps : List Piece) (t : ℕ) (small kept : Bool) (v : ℤ) (h : pieces.Held)
     → (small ≡ true → kept ≡ true) → Pushed g ps t false kept v h → Pushed g ps t false small v h
@@ -109,35 +106,28 @@ module _ (g : Ground) (top t : ℕ) (es : List Entry) (env : Environment) (a b :
         alone = λ is. absurd (cc is);
       }
 
-  left_pushes : (n : ℤ) → y ≡ n → shifted shifted_left x n ≡ Some v
-      → AllStandOn g (two t a b ++ operates (pair_operation arithmetic.ShiftLeft) ∷ [])
-      → Pushed g (two t a b ++ operates (pair_operation arithmetic.ShiftLeft) ∷ []) t false (a.small && b.leaf) v h
-  left_pushes (pos n) same gives all =
-      shift_pushes (pair_operation arithmetic.ShiftLeft) shifts.Left n operands_name_operations.left same
-      (count_by (in_range counts (pos n)) shifted_left x n v gives) all
-  left_pushes (negsuc n) same gives all = absurd (cc)
-
-  right_pushes : (n : ℤ) → y ≡ n → shifted shifted_right x n ≡ Some v
-      → AllStandOn g (two t a b ++ operates (pair_operation arithmetic.ShiftRight) ∷ [])
-      → Pushed g (two t a b ++ operates (pair_operation arithmetic.ShiftRight) ∷ []) t false (a.small && b.leaf) v h
-  right_pushes (pos n) same gives all =
-      shift_pushes (pair_operation arithmetic.ShiftRight) shifts.Right n operands_name_operations.right same
-      (count_by (in_range counts (pos n)) shifted_right x n v gives) all
-  right_pushes (negsuc n) same gives all = absurd (cc)
+  -- a count that is not below 0
+  counted_pushes : (operation : ℤ) (op : Shift) (shift : ℤ → ℕ → ℤ) (n : ℤ) → IsShift operation op
+      → ((m : ℕ) → shift_result op x m ≡ shift x m) → y ≡ n → shifted shift x n ≡ Some v
+      → AllStandOn g (two t a b ++ operates operation ∷ [])
+      → Pushed g (two t a b ++ operates operation ∷ []) t false (a.small && b.leaf) v h
+  counted_pushes operation op shift (pos n) is same count gives all =
+      shift_pushes operation op n is count (same n ∙ count_by (in_range counts (pos n)) shift x n v gives) all
+  counted_pushes operation op shift (negsuc n) is same count gives all = absurd (cc)
 
   both_pushed : (op : ArithmeticPair) → pair_value op x y ≡ Some v
       → AllStandOn g (two t a b ++ operates (pair_operation op) ∷ [])
       → Pushed g (two t a b ++ operates (pair_operation op) ∷ []) t false (a.small && b.leaf) v h
-  both_pushed arithmetic.Subtract gives all =
-      binary_pushes (pair_operation arithmetic.Subtract) binary.Subtract operands_name_operations.subtract gives all
-  both_pushed arithmetic.Divide gives all =
-      binary_pushes (pair_operation arithmetic.Divide) binary.Divide operands_name_operations.divide gives all
-  both_pushed arithmetic.Remainder gives all =
-      binary_pushes (pair_operation arithmetic.Remainder) binary.Remainder operands_name_operations.remainder gives all
-  both_pushed arithmetic.Minus gives all =
-      binary_pushes (pair_operation arithmetic.Minus) binary.Difference operands_name_operations.difference gives all
-  both_pushed arithmetic.ShiftLeft gives all = left_pushes y refl gives all
-  both_pushed arithmetic.ShiftRight gives all = right_pushes y refl gives all
+  both_pushed arithmetic.Subtract gives all = binary_pushes _ _ operands_name.subtract gives all
+  both_pushed arithmetic.Divide gives all = binary_pushes _ _ operands_name.divide gives all
+  both_pushed arithmetic.Remainder gives all = binary_pushes _ _ operands_name.remainder gives all
+  both_pushed arithmetic.Minus gives all = binary_pushes _ _ operands_name.difference gives all
+  both_pushed arithmetic.ShiftLeft gives all =
+      counted_pushes (pair_operation arithmetic.ShiftLeft) shifts.Left shifted_left y operands_name.left (λ m. refl)
+      refl gives all
+  both_pushed arithmetic.ShiftRight gives all =
+      counted_pushes (pair_operation arithmetic.ShiftRight) shifts.Right shifted_right y operands_name.right
+      (λ m. refl) refl gives all
 
   -- the constant is added in place of the one that is subtracted
   pub sum_pushed : (d : ℤ) → checked_sum x d ≡ Some v
@@ -170,12 +160,7 @@ module _ (g : Ground) (top t : ℕ) (es : List Entry) (env : Environment) (a b :
   by_added None op constant is value gives all = both_pushed op gives all
   by_added (Some d) arithmetic.Subtract (Some c) is value gives all =
       sum_pushed d (subtracted x y c d v value is gives) all
-  by_added (Some d) arithmetic.Subtract None is value gives all = absurd (cc)
-  by_added (Some d) arithmetic.Divide constant is value gives all = absurd (cc)
-  by_added (Some d) arithmetic.Remainder constant is value gives all = absurd (cc)
-  by_added (Some d) arithmetic.Minus constant is value gives all = absurd (cc)
-  by_added (Some d) arithmetic.ShiftLeft constant is value gives all = absurd (cc)
-  by_added (Some d) arithmetic.ShiftRight constant is value gives all = absurd (cc)
+  by_added (Some d) op constant is value gives all = absurd (cc)
 
 pub arithmetic_pushes : ArithmeticPushes
 arithmetic_pushes g top t es env op a b known constant x y v h meets low few x_fits y_fits push_a push_b value gives all

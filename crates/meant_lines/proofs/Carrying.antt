@@ -99,18 +99,9 @@ homes_end_before hs es top name k rise is = home_by (number_in name es) hs es to
 
 -- a home that ends in the frame is in it
 pub ends_inside : (words : ℕ) (h : Option Home) (k : Meaning) → end_of h k ≤ words → IsInside words h k
-ends_inside words None k ends = ends
-ends_inside words (Some Nowhere) k ends = ends
-ends_inside words (Some (Word w)) (Constant type value) ends = ends
-ends_inside words (Some (Word w)) (Scalar kind type range) ends = ends
-ends_inside words (Some (Word w)) (Array kind type size range) ends = ends
 ends_inside words (Some (Word w)) (Channel type) ends = tt
 ends_inside words (Some (Word w)) (Channels type size) ends = tt
-ends_inside words (Some (Word w)) (Procedure number) ends = ends
-ends_inside words (Some (Block w head)) k ends = ends
-ends_inside words (Some (Link number)) k ends = ends
-ends_inside words (Some (home.Table values)) k ends = ends
-ends_inside words (Some (Passed w)) k ends = ends
+ends_inside words h k ends = ends
 
 inside_by : (t : Bool) (words : ℕ) (hs : List Home) (e : Entry) (es : List Entry) (n : ℕ) (k : Meaning)
     → nat_eq (length es) n ≡ t → cond t (Some e.meaning) (meaning_at n es) ≡ Some k

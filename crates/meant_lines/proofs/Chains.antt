@@ -6,14 +6,14 @@ use Rattle.std.specs.Int.{w32, cast_unsigned, cast_signed}
 use Rattle.std.specs.Ordering.{int_eq}
 use Rattle.std.proofs.Math.Nat.{add_comm, mul_comm}
 use Rattle.std.proofs.Math.IntN.{+ℤ_comm}
-use Rattle.std.proofs.lemmas.Nat as nat
 use Rattle.std.proofs.lemmas.Int.{wrapping_mul_is, int_wrap_fits}
 use Rattle.word_arithmetic.specs.Word.{is_word, checked, checked_sum, word_product, word_sum, word_and, word_or}
-use Rattle.word_arithmetic.specs.Word.{word_xor, truth, least_word}
+use Rattle.word_arithmetic.specs.Word.{truth, least_word}
 use Rattle.word_arithmetic.specs.Binary.{computed}
 use Rattle.word_arithmetic.specs.declared.binary.Binary.{Binary}
 use Rattle.word_arithmetic.specs.declared.binary.Binary.TheVariants as binary
 use Rattle.word_arithmetic.proofs.WordLaws.{is_word_out}
+use Rattle.machine_state.specs.Instructions.{op_of}
 use Rattle.prefix_decoder.specs.declared.function.Fun.TheVariants as fun
 use Rattle.occam_parser.specs.declared.tree.ChainOperator.{ChainOperator}
 use Rattle.occam_parser.specs.declared.tree.ChainOperator.TheVariants as chain
@@ -26,15 +26,19 @@ use Rattle.line_pieces.specs.Expressions.{Operand, adds_or, added_by}
 use Rattle.line_pieces.specs.Expressions.{first_two, onto, chain_operation}
 use Rattle.placed_code.specs.StraightPieces as pieces
 use Rattle.placed_code.proofs.StraightPieces.{lead_both}
-use Rattle.meant_lines.specs.Instructions.{IsBinary, with_a}
+use Rattle.placed_code.proofs.OperandsKeep.{kept_of}
+use Rattle.placed_code.proofs.ChainsOperate.{word_operation, commutes, chains_commute}
+use Rattle.placed_code.proofs.WordsTurned.{and_turned, or_turned, xor_turned}
+use Rattle.placed_code.specs.OperandsName.{IsBinary}
+use Rattle.meant_lines.specs.Instructions.{with_a}
 use Rattle.meant_lines.specs.Carrying.{Ground, Carries}
 use Rattle.meant_lines.specs.Pushing.{Pushed, PushedBoth, Pushes, AllStandOn, IsCounted, OperandPushes, keeps}
-use Rattle.meant_lines.specs.OperatorLaws.{IsValue, joined_value, ChainsAreOperations, ChainsCompute, TruthsAreJoined}
+use Rattle.meant_lines.specs.OperatorLaws.{IsValue, joined_value, ChainsCompute, TruthsAreJoined}
 use Rattle.meant_lines.specs.OperatorLaws.{FirstTwoPush, OneMorePushes}
-use Rattle.meant_lines.proofs.Instructions.{operands_name_operations, constants_are_added}
+use Rattle.meant_lines.proofs.Instructions.{constants_are_added}
 use Rattle.meant_lines.proofs.Operators.{operations_push, operation_behind, on_it, waiting, first_stand, keeps_a}
 use Rattle.meant_lines.proofs.Operators.{both_true}
-use Rattle.meant_lines.proofs.Arithmetic.{fewer_kept, kept_of, checked_by, sum_pushed}
+use Rattle.meant_lines.proofs.Arithmetic.{fewer_kept, checked_by, sum_pushed}
 
 -- ---- operations
 
@@ -45,15 +49,6 @@ sum_turned x y =
 product_turned : (x y : ℤ) → word_product y x ≡ word_product x y
 product_turned x y =
     ap (λ (n : ℕ). cast_signed w32 (n % 2 ^ 32)) (mul_comm (cast_unsigned w32 y) (cast_unsigned w32 x))
-
-and_turned : (x y : ℤ) → word_and y x ≡ word_and x y
-and_turned x y = ap (cast_signed w32) (nat.and_comm (cast_unsigned w32 y) (cast_unsigned w32 x))
-
-or_turned : (x y : ℤ) → word_or y x ≡ word_or x y
-or_turned x y = ap (cast_signed w32) (nat.or_comm (cast_unsigned w32 y) (cast_unsigned w32 x))
-
-xor_turned : (x y : ℤ) → word_xor y x ≡ word_xor x y
-xor_turned x y = ap (cast_signed w32) (nat.xor_comm (cast_unsigned w32 y) (cast_unsigned w32 x))
 
 -- a product that is a word is the one modulo 2^32
 product_by : (t : Bool) (x y v : ℤ) → FitsSigned w32 x → FitsSigned w32 y → is_word (x *ℤ y) ≡ t
@@ -68,50 +63,39 @@ product_is : (x y v : ℤ) → FitsSigned w32 x → FitsSigned w32 y → compute
 unfolding computed
 product_is x y v x_fits y_fits gives = product_by (is_word (x *ℤ y)) x y v x_fits y_fits refl gives
 
--- an operation that never fails, in either order
-unfailing_operation : (op : ChainOperator) (operation : Binary) (f : ℤ → ℤ → ℤ) (x y v : ℤ)
-    → IsBinary (chain_operation op) operation → ((a b : ℤ) → computed operation a b ≡ Some (f a b))
-    → f y x ≡ f x y → Some (f x y) ≡ Some v → ChainsAreOperations op x y v
-unfailing_operation op operation f x y v named is same gives = record {
-  operation = operation;
-  named = named;
-  gives = is x y ∙ gives;
-  turned = is y x ∙ ap Some same ∙ gives;
-}
+turned_value : (op : Binary) (x y : ℤ) → commutes op ≡ true → computed op y x ≡ computed op x y
+unfolding computed
+turned_value binary.Add x y is = ap checked (+ℤ_comm y x)
+turned_value binary.Sum x y is = ap Some (sum_turned x y)
+turned_value binary.Product x y is = ap Some (product_turned x y)
+turned_value binary.And x y is = ap Some (and_turned x y)
+turned_value binary.Or x y is = ap Some (or_turned x y)
+turned_value binary.ExclusiveOr x y is = ap Some (xor_turned x y)
+turned_value op x y is = absurd (cc)
+
+named_in_chains : (op : ChainOperator) → IsBinary (chain_operation op) (word_operation op)
+unfolding op_of
+named_in_chains (chain.Arithmetic arithmetic_chain.Add) = refl
+named_in_chains (chain.Logic logic.And) = refl
+named_in_chains op = refl
+
+words_compute : (op : ChainOperator) (x y v : ℤ) → FitsSigned w32 x → FitsSigned w32 y → joined_value op x y ≡ Some v
+    → computed (word_operation op) x y ≡ Some v
+unfolding computed
+words_compute (chain.Arithmetic arithmetic_chain.Multiply) x y v x_fits y_fits is =
+    ap Some (product_is x y v x_fits y_fits is)
+words_compute (chain.Logic logic.And) x y v x_fits y_fits is = is
+words_compute op x y v x_fits y_fits is = is
 
 pub chains_compute : ChainsCompute
-unfolding computed
-chains_compute (chain.Arithmetic arithmetic_chain.Add) x y v x_fits y_fits is = record {
-  operation = binary.Add;
-  named = operands_name_operations.add;
-  gives = is;
-  turned = ap checked (+ℤ_comm y x) ∙ is;
-}
-chains_compute (chain.Arithmetic arithmetic_chain.Multiply) x y v x_fits y_fits is =
-    unfailing_operation (chain.Arithmetic arithmetic_chain.Multiply) binary.Product word_product x y v
-    operands_name_operations.product (λ a b. refl) (product_turned x y)
-    (ap Some (product_is x y v x_fits y_fits is))
-chains_compute (chain.Arithmetic arithmetic_chain.Plus) x y v x_fits y_fits is =
-    unfailing_operation (chain.Arithmetic arithmetic_chain.Plus) binary.Sum word_sum x y v
-    operands_name_operations.sum (λ a b. refl) (sum_turned x y) is
-chains_compute (chain.Arithmetic arithmetic_chain.Times) x y v x_fits y_fits is =
-    unfailing_operation (chain.Arithmetic arithmetic_chain.Times) binary.Product word_product x y v
-    operands_name_operations.product (λ a b. refl) (product_turned x y) is
-chains_compute (chain.Arithmetic arithmetic_chain.BitAnd) x y v x_fits y_fits is =
-    unfailing_operation (chain.Arithmetic arithmetic_chain.BitAnd) binary.And word_and x y v
-    operands_name_operations.and (λ a b. refl) (and_turned x y) is
-chains_compute (chain.Arithmetic arithmetic_chain.BitOr) x y v x_fits y_fits is =
-    unfailing_operation (chain.Arithmetic arithmetic_chain.BitOr) binary.Or word_or x y v
-    operands_name_operations.or (λ a b. refl) (or_turned x y) is
-chains_compute (chain.Arithmetic arithmetic_chain.BitXor) x y v x_fits y_fits is =
-    unfailing_operation (chain.Arithmetic arithmetic_chain.BitXor) binary.ExclusiveOr word_xor x y v
-    operands_name_operations.exclusive_or (λ a b. refl) (xor_turned x y) is
-chains_compute (chain.Logic logic.And) x y v x_fits y_fits is =
-    unfailing_operation (chain.Logic logic.And) binary.And word_and x y v operands_name_operations.and (λ a b. refl)
-    (and_turned x y) is
-chains_compute (chain.Logic logic.Or) x y v x_fits y_fits is =
-    unfailing_operation (chain.Logic logic.Or) binary.Or word_or x y v operands_name_operations.or (λ a b. refl)
-    (or_turned x y) is
+chains_compute op x y v x_fits y_fits is =
+    let gives = words_compute op x y v x_fits y_fits is in
+    record {
+      operation = word_operation op;
+      named = named_in_chains op;
+      gives = gives;
+      turned = turned_value (word_operation op) x y (chains_commute op) ∙ gives;
+    }
 
 and_truths : (p q : Bool) → word_and (truth p) (truth q) ≡ truth (p && q)
 and_truths true true = refl
@@ -144,14 +128,7 @@ added_value (chain.Arithmetic arithmetic_chain.Add) (Some c) d x y v is value gi
     by_test : (t : Bool) (c d : ℤ) → cond t None (Some c) ≡ Some d → c ≡ d
     by_test true c d is = absurd (cc)
     by_test false c d is = cc
-added_value (chain.Arithmetic arithmetic_chain.Add) None d x y v is value gives = absurd (cc)
-added_value (chain.Arithmetic arithmetic_chain.Multiply) constant d x y v is value gives = absurd (cc)
-added_value (chain.Arithmetic arithmetic_chain.Plus) constant d x y v is value gives = absurd (cc)
-added_value (chain.Arithmetic arithmetic_chain.Times) constant d x y v is value gives = absurd (cc)
-added_value (chain.Arithmetic arithmetic_chain.BitAnd) constant d x y v is value gives = absurd (cc)
-added_value (chain.Arithmetic arithmetic_chain.BitOr) constant d x y v is value gives = absurd (cc)
-added_value (chain.Arithmetic arithmetic_chain.BitXor) constant d x y v is value gives = absurd (cc)
-added_value (chain.Logic op) constant d x y v is value gives = absurd (cc)
+added_value op constant d x y v is value gives = absurd (cc)
 
 -- ---- the first two operands
 

@@ -1,5 +1,5 @@
 -- What the code of comparisons pushes.
-use Rattle.std.proofs.Common.{◌≡◌, ℕ, ◌≤◌, inl, inr, ℤ, pos, Bool, true, false, not, ◌&&◌, ◌||◌, List, [], ◌∷◌, ◌++◌}
+use Rattle.std.proofs.Common.{◌≡◌, ℕ, ◌≤◌, inl, inr, ℤ, pos, Bool, true, false, not, ◌&&◌, List, [], ◌∷◌, ◌++◌}
 use Rattle.std.proofs.Common.{Option, Some, None, FitsSigned, refl, sym, ap, subst, ◌∙◌, arith, append_assoc}
 use Rattle.std.proofs.Common.{int_le, int_lt, ◌+◌, ◌-◌, ◌%◌, ◌^◌}
 use Rattle.std.specs.Prelude.{◌+ℤ◌, ◌-ℤ◌}
@@ -26,14 +26,16 @@ use Rattle.line_pieces.specs.Expressions.{below_constant}
 use Rattle.placed_code.specs.StraightPieces as pieces
 use Rattle.placed_code.specs.StraightPieces.{LeadOn, with_pushed}
 use Rattle.placed_code.proofs.StraightPieces.{lead_both}
+use Rattle.placed_code.proofs.OperandsName.{operands_name}
+use Rattle.placed_code.proofs.OperandsKeep.{kept_of, leaves_kept, exchanged_kept, by_next}
 use Rattle.meant_lines.specs.Instructions.{with_a, with_result}
 use Rattle.meant_lines.specs.Carrying.{Ground, Carries}
 use Rattle.meant_lines.specs.Pushing.{Pushed, AllStandOn, IsCounted, OperandPushes, AreOperands, keeps}
 use Rattle.meant_lines.specs.OperatorLaws.{IsValue, leaves_below, ComparisonsPush}
-use Rattle.meant_lines.proofs.Instructions.{operands_name_operations, constants_are_compared, constants_are_pushed}
+use Rattle.meant_lines.proofs.Instructions.{constants_are_compared, constants_are_pushed}
 use Rattle.meant_lines.proofs.Instructions.{operations_are_computed, registers_are_reversed}
-use Rattle.meant_lines.proofs.Operators.{both_push, operations_push, first_stand, rest_stand, both_true}
-use Rattle.meant_lines.proofs.Arithmetic.{checked_by, fewer_kept, kept_of}
+use Rattle.meant_lines.proofs.Operators.{both_push, operations_push, first_stand, both_true}
+use Rattle.meant_lines.proofs.Arithmetic.{checked_by, fewer_kept}
 
 -- ---- values
 
@@ -42,27 +44,23 @@ same_tests true q f g = sym (f refl)
 same_tests false true f g = g refl
 same_tests false false f g = refl
 
--- x <= c is x < c + 1
-above_by : (x c d : ℤ) (p q : Bool) → d ≡ c +ℤ pos 1 → int_lt x d ≡ p → int_le x c ≡ q → p ≡ q
-above_by x c d true true next e f = refl
-above_by x c d true false next e f = absurd (omega (arith, ints))
-above_by x c d false true next e f = absurd (omega (arith, ints))
-above_by x c d false false next e f = refl
+-- two numbers are less apart by 1 than two others
+less_by_one : (x y u v : ℤ) (p q : Bool) → (v -ℤ u) +ℤ pos 1 ≡ y -ℤ x → int_lt x y ≡ p → int_le u v ≡ q → p ≡ q
+less_by_one x y u v true true apart e f = refl
+less_by_one x y u v false false apart e f = refl
+less_by_one x y u v p q apart e f = absurd (omega (arith, ints))
 
+-- x <= c is x < c + 1
 next_above_is : (x c d : ℤ) → next_above (Some c) ≡ Some d → int_lt x d ≡ int_le x c
 next_above_is x c d is =
-    above_by x c d (int_lt x d) (int_le x c) (sym (checked_by (is_word (c +ℤ pos 1)) (c +ℤ pos 1) d is)) refl refl
+    let next = checked_by (is_word (c +ℤ pos 1)) (c +ℤ pos 1) d is in
+    less_by_one x d x c (int_lt x d) (int_le x c) (omega (arith, ints, next)) refl refl
 
 -- x >= c is x > c - 1
-below_by : (x c d : ℤ) (p q : Bool) → d ≡ c -ℤ pos 1 → int_lt d x ≡ p → int_le c x ≡ q → p ≡ q
-below_by x c d true true next e f = refl
-below_by x c d true false next e f = absurd (omega (arith, ints))
-below_by x c d false true next e f = absurd (omega (arith, ints))
-below_by x c d false false next e f = refl
-
 next_below_is : (x c d : ℤ) → next_below (Some c) ≡ Some d → int_lt d x ≡ int_le c x
 next_below_is x c d is =
-    below_by x c d (int_lt d x) (int_le c x) (sym (checked_by (is_word (c -ℤ pos 1)) (c -ℤ pos 1) d is)) refl refl
+    let next = checked_by (is_word (c -ℤ pos 1)) (c -ℤ pos 1) d is in
+    less_by_one d x c x (int_lt d x) (int_le c x) (omega (arith, ints, next)) refl refl
 
 not_above_by : (x y : ℤ) (p q : Bool) → int_lt y x ≡ p → int_le x y ≡ q → not p ≡ q
 not_above_by x y true true e f = absurd (omega (arith, ints))
@@ -156,22 +154,8 @@ as_truth g ps t small p q h same is = subst (λ (b : Bool). Pushed g ps t false 
 
 -- ---- two operands
 
-leaves_kept : (small leaf second : Bool) → (leaf && second) ≡ true → ((small || leaf) && second) ≡ true
-leaves_kept true true true is = refl
-leaves_kept true true false is = absurd (cc is)
-leaves_kept true false second is = absurd (cc is)
-leaves_kept false true second is = is
-leaves_kept false false second is = absurd (cc is)
-
 first_leaf : (p q : Bool) → (p && q) ≡ true → p ≡ true
 first_leaf p q is = (both_true p q is).0
-
--- what two operands that are one push each keep
-exchanged_kept : (small leaf first : Bool) → (first && leaf) ≡ true → ((small || leaf) && first) ≡ true
-exchanged_kept true true true is = refl
-exchanged_kept false true true is = refl
-exchanged_kept small false true is = absurd (cc is)
-exchanged_kept small leaf false is = absurd (cc is)
 
 module _ (g : Ground) (top t : ℕ) (es : List Entry) (env : Environment) (meets : Meets env es) (low : top ≤ t)
     (few : IsCounted t) (h : pieces.Held) (carries : Carries g top es env h.memory) where
@@ -184,7 +168,7 @@ module _ (g : Ground) (top t : ℕ) (es : List Entry) (env : Environment) (meets
   unfolding computed
   greater_pushed a b x y x_fits push_a push_b all =
       operations_push g top t es env true a b GREATER binary.Greater x y (truth (int_lt y x)) h meets low few x_fits
-      push_a push_b operands_name_operations.greater refl (λ no. absurd (cc no)) all carries
+      push_a push_b operands_name.greater refl (λ no. absurd (cc no)) all carries
 
   -- they are equal
   equal_pushed : (a b : Operand) (x y : ℤ) → FitsSigned w32 x → FitsSigned w32 y → OperandPushes g top es env t a x
@@ -203,7 +187,7 @@ module _ (g : Ground) (top t : ℕ) (es : List Entry) (env : Environment) (meets
         after = with_a (truth (int_eq d (pos 0))) (with_result d k);
         leads = lead_both two.leads
             (lead_both (operations_are_computed g.footing DIFFERENCE binary.Difference d k
-            operands_name_operations.difference refl)
+            operands_name.difference refl)
             (constants_are_compared g.footing (pos 0) (with_result d k)));
         a = ap truth (either_tells x y k.stack x_fits y_fits two.operands);
         changes = two.changes;
@@ -223,7 +207,7 @@ module _ (g : Ground) (top t : ℕ) (es : List Entry) (env : Environment) (meets
       record {
         after = with_result v first.after;
         leads = lead_both (constants_are_pushed g.footing c h) (lead_both first.leads
-            (operations_are_computed g.footing GREATER binary.Greater v first.after operands_name_operations.greater
+            (operations_are_computed g.footing GREATER binary.Greater v first.after operands_name.greater
             refl));
         a = ap (λ (u : ℤ). truth (int_lt u first.after.stack.b)) first.a
             ∙ ap (λ (u : ℤ). truth (int_lt x u)) (first.below refl);
@@ -243,7 +227,7 @@ module _ (g : Ground) (top t : ℕ) (es : List Entry) (env : Environment) (meets
             (lead_both first.leads (lead_both (constants_are_pushed g.footing c k)
             (lead_both (registers_are_reversed g.footing under)
             (operations_are_computed g.footing GREATER binary.Greater v
-            (record under { stack = record { a = k.stack.a; b = c; c = k.stack.b } }) operands_name_operations.greater
+            (record under { stack = record { a = k.stack.a; b = c; c = k.stack.b } }) operands_name.greater
             refl))));
         a = ap (λ (u : ℤ). truth (int_lt u c)) first.a;
         changes = first.changes;
@@ -262,7 +246,7 @@ module _ (g : Ground) (top t : ℕ) (es : List Entry) (env : Environment) (meets
         after = with_result v (with_pushed c k);
         leads = lead_both (lead_both first.leads (constants_are_pushed g.footing c k))
             (operations_are_computed g.footing GREATER binary.Greater v (with_pushed c k)
-            operands_name_operations.greater refl);
+            operands_name.greater refl);
         a = ap (λ (u : ℤ). truth (int_lt c u)) first.a;
         changes = first.changes;
         below = λ is. ap (λ (j : pieces.Held). j.stack.b) (first.alone is);
@@ -303,9 +287,7 @@ module _ (g : Ground) (top t : ℕ) (es : List Entry) (env : Environment) (meets
     where
       left_stores : (small : Bool) (ps : List Piece)
           → AllStandOn g (after_constant c small ps ++ operates GREATER ∷ []) → AllStandOn g ps
-      left_stores true ps all =
-          first_stand g ps (operates GREATER ∷ [])
-          (rest_stand g (constant c ∷ []) (ps ++ operates GREATER ∷ []) all)
+      left_stores true ps all = first_stand g ps (operates GREATER ∷ []) all.1
       left_stores false ps all =
           first_stand g ps (constant c ∷ operates REVERSE ∷ [])
           (first_stand g (ps ++ constant c ∷ operates REVERSE ∷ []) (operates GREATER ∷ []) all)
@@ -328,11 +310,6 @@ module _ (g : Ground) (top t : ℕ) (es : List Entry) (env : Environment) (meets
       → Pushed g (pushed (pushes_of (pair.Comparison op) first second) t a b
       ++ pair_code (pair.Comparison op) first second) t false (leaves_below (pair.Comparison op) a b)
       (truth (compares op x y)) h
-
-  greater : (first second : Option ℤ) → Compares comparison.Greater first second
-  greater first second all =
-      fewer_kept g (both true (comes_last a.leaf b.small) t a b ++ operates GREATER ∷ []) t (a.small && b.leaf)
-      (keeps a b) (truth (int_lt y x)) h (kept_of a.small a.leaf b.leaf) (in_order all)
 
   less : (first second : Option ℤ) → IsValue second y → Compares comparison.Less first second
   less first None value all = in_turn all
@@ -363,27 +340,11 @@ module _ (g : Ground) (top t : ℕ) (es : List Entry) (env : Environment) (meets
       (int_le y x) h (not_above y x)
       (turned_behind g second_greater (operates GREATER ∷ []) t false (a.leaf && b.leaf) (int_lt x y) h in_turn all)
 
-  less_or_equal : (first second : Option ℤ) (o : Option ℤ) → next_above second ≡ o → IsValue second y
-      → AllStandOn g (pushed (on_constant (pushes_of (pair.Comparison comparison.Greater) None None) o) t a b
-      ++ operates GREATER ∷ negated_unless o)
-      → Pushed g (pushed (on_constant (pushes_of (pair.Comparison comparison.Greater) None None) o) t a b
-      ++ operates GREATER ∷ negated_unless o) t false (a.leaf && b.leaf) (truth (int_le x y)) h
-  less_or_equal first second None next value all = not_greater all
-  less_or_equal first None (Some d) next value all = absurd (cc)
-  less_or_equal first (Some c) (Some d) next value all =
-      as_truth g (after_constant d a.small a.first ++ operates GREATER ∷ []) t (a.leaf && b.leaf) (int_lt x d)
-      (int_le x y) h (next_above_is x c d next ∙ ap (int_le x) value) (over d all)
-
-  greater_or_equal : (first second : Option ℤ) (o : Option ℤ) → next_below second ≡ o → IsValue second y
-      → AllStandOn g (pushed (below_constant (pushes_of (pair.Comparison comparison.Less) None None) o) t a b
-      ++ operates GREATER ∷ negated_unless o)
-      → Pushed g (pushed (below_constant (pushes_of (pair.Comparison comparison.Less) None None) o) t a b
-      ++ operates GREATER ∷ negated_unless o) t false (a.leaf && b.leaf) (truth (int_le y x)) h
-  greater_or_equal first second None next value all = not_less all
-  greater_or_equal first None (Some d) next value all = absurd (cc)
-  greater_or_equal first (Some c) (Some d) next value all =
-      as_truth g ((a.first ++ constant d ∷ []) ++ operates GREATER ∷ []) t (a.leaf && b.leaf) (int_lt d x)
-      (int_le y x) h (next_below_is x c d next ∙ ap (λ (u : ℤ). int_le u x) value) (under d all)
+  -- with a constant that is next to the second operand, or with both operands
+  abbrev NextPushes : (Option ℤ → List Piece) → (holds : Bool) → Option ℤ → Type 0
+  NextPushes operands holds o =
+      let code : List Piece = operands o ++ operates GREATER ∷ negated_unless o in
+      AllStandOn g code → Pushed g code t false (a.leaf && b.leaf) (truth holds) h
 
   -- the second operand alone
   second_compared : (c : ℤ) → Pushed g b.first t b.leaf b.small y h
@@ -415,23 +376,31 @@ module _ (g : Ground) (top t : ℕ) (es : List Entry) (env : Environment) (meets
   equal None None is value all =
       equal_pushed g top t es env meets low few h carries a b x y x_fits y_fits push_a push_b all
 
-  equal_code_negated : (first second : Option ℤ) → IsValue first x → IsValue second y
-      → Compares comparison.NotEqual first second
-  equal_code_negated first second is value all =
-      turned_behind g (pushed (pushes_of (pair.Comparison comparison.Equal) first second) t a b)
-      (pair_code (pair.Comparison comparison.Equal) first second) t false (a.small && b.leaf) (int_eq x y) h
-      (equal first second is value) all
-
   compared : (op : Comparison) (first second : Option ℤ) → IsValue first x → IsValue second y
       → Compares op first second
   compared comparison.Equal first second is value all = equal first second is value all
-  compared comparison.NotEqual first second is value all = equal_code_negated first second is value all
+  compared comparison.NotEqual first second is value all =
+      turned_behind g (pushed (pushes_of (pair.Comparison comparison.Equal) first second) t a b)
+      (pair_code (pair.Comparison comparison.Equal) first second) t false (a.small && b.leaf) (int_eq x y) h
+      (equal first second is value) all
   compared comparison.Less first second is value all = less first second value all
   compared comparison.LessOrEqual first second is value all =
-      less_or_equal first second (next_above second) refl value all
-  compared comparison.Greater first second is value all = greater first second all
+      by_next next_above (λ o. IsValue o y)
+      (NextPushes (λ o. pushed (on_constant (pushes_of (pair.Comparison comparison.Greater) None None) o) t a b)
+      (int_le x y)) refl not_greater
+      (λ c d value next all.
+      as_truth g (after_constant d a.small a.first ++ operates GREATER ∷ []) t (a.leaf && b.leaf) (int_lt x d)
+      (int_le x y) h (next_above_is x c d next ∙ ap (int_le x) value) (over d all)) second value all
+  compared comparison.Greater first second is value all =
+      fewer_kept g (both true (comes_last a.leaf b.small) t a b ++ operates GREATER ∷ []) t (a.small && b.leaf)
+      (keeps a b) (truth (int_lt y x)) h (kept_of a.small a.leaf b.leaf) (in_order all)
   compared comparison.GreaterOrEqual first second is value all =
-      greater_or_equal first second (next_below second) refl value all
+      by_next next_below (λ o. IsValue o y)
+      (NextPushes (λ o. pushed (below_constant (pushes_of (pair.Comparison comparison.Less) None None) o) t a b)
+      (int_le y x)) refl not_less
+      (λ c d value next all.
+      as_truth g ((a.first ++ constant d ∷ []) ++ operates GREATER ∷ []) t (a.leaf && b.leaf) (int_lt d x)
+      (int_le y x) h (next_below_is x c d next ∙ ap (λ (u : ℤ). int_le u x) value) (under d all)) second value all
 
 pub comparisons_push : ComparisonsPush
 comparisons_push g top t es env op a b first second x y h meets low few x_fits y_fits push_a push_b is value all

@@ -27,6 +27,7 @@ use Rattle.code_pieces.specs.Laying.{operand_at}
 use Rattle.placed_code.specs.StraightPieces.{Footing, Held, LeadOn, done, next, table, state_at, with_pushed}
 use Rattle.placed_code.specs.StraightPieces.{word_address, word_place}
 use Rattle.placed_code.proofs.StraightPieces.{lead_both}
+use Rattle.placed_code.proofs.OperandsName.{operands_name}
 use Rattle.meant_lines.specs.Words.{IsInFrame}
 use Rattle.meant_lines.specs.Instructions.{PieceLeads, IsInside, without_a}
 use Rattle.meant_lines.specs.Instructions.{with_memory, LeastWordIsPushed, ConstantsArePushed, WordsAreLoaded}
@@ -175,23 +176,7 @@ words_are_shifted w operation op count h is counts =
     (λ start at. rw counts refl)
 
 pub operands_name_operations : OperandsNameOperations
-unfolding op_of
-operands_name_operations = record {
-  add = refl;
-  subtract = refl;
-  multiply = refl;
-  divide = refl;
-  remainder = refl;
-  sum = refl;
-  difference = refl;
-  product = refl;
-  and = refl;
-  or = refl;
-  exclusive_or = refl;
-  greater = refl;
-  left = refl;
-  right = refl;
-}
+operands_name_operations = operands_name
 
 -- ---- several
 

@@ -18,7 +18,8 @@ use Rattle.placed_code.specs.StraightPieces as pieces
 use Rattle.placed_code.specs.StraightPieces.{LeadOn, done, with_pushed, word_place}
 use Rattle.placed_code.proofs.StraightPieces.{lead_both}
 use Rattle.meant_lines.specs.Words.{IsInFrame, Holds, ChangesWithin, with_frame_word}
-use Rattle.meant_lines.specs.Instructions.{IsBinary, with_memory, without_a, with_result}
+use Rattle.placed_code.specs.OperandsName.{IsBinary}
+use Rattle.meant_lines.specs.Instructions.{with_memory, without_a, with_result}
 use Rattle.meant_lines.specs.Carrying.{Ground, Carries}
 use Rattle.meant_lines.specs.Pushing.{Pushed, StandsOn, AllStandOn, Pushes, IsCounted, AreOperands}
 use Rattle.meant_lines.specs.Pushing.{PushedBoth, keeps}

@@ -1,15 +1,14 @@
 -- Memory carries an environment whatever is known of ranges.
-use Rattle.std.proofs.Common.{◌≡◌, ℕ, ◌+◌, ◌≤◌, suc, List, [], ◌∷◌, length, Option, Some, None, refl, sym, ap}
-use Rattle.std.proofs.Common.{subst, ◌∙◌}
+use Rattle.std.proofs.Common.{◌≡◌, ℕ, ◌+◌, ◌≤◌, suc, List, [], ◌∷◌, length, Option, Some, refl, sym, ap}
+use Rattle.std.proofs.Common.{subst, ◌∙◌, ◌↔◌}
 use Rattle.std.specs.Prelude.{slice_get}
 use Rattle.word_arithmetic.specs.Range.{full}
 use Rattle.machine_state.specs.Memory.{Memory}
-use Rattle.scalar_ranges.specs.Entries.{Meaning, Constant, Scalar, Array, Channel, Channels, Procedure, Entry}
+use Rattle.scalar_ranges.specs.Entries.{Meaning, Scalar, Entry}
 use Rattle.scalar_ranges.specs.Environments.{Held, Environment}
 use Rattle.scalar_ranges.specs.Narrowing.{with_range}
 use Rattle.scalar_ranges.specs.MoveLaws.{shape}
-use Rattle.line_pieces.specs.Homes as home
-use Rattle.line_pieces.specs.Homes.{Home, Nowhere, Word, Block, Link, Passed}
+use Rattle.line_pieces.specs.Homes.{Home, Word}
 use Rattle.meant_lines.specs.Carrying.{Ground, IsKeptThere, AreKept, words_held, start_of, end_of, Rise, IsInside}
 use Rattle.meant_lines.specs.Carrying.{AreInside}
 use Rattle.meant_lines.specs.CarryingLaws.{SameShapesCarry}
@@ -18,70 +17,22 @@ use Rattle.meant_lines.specs.CarryingLaws.{SameShapesCarry}
 abbrev bare : Meaning → Meaning
 bare k = with_range (λ r. full) k
 
-to_bare : (g : Ground) (m : Memory) (o : Option Home) (k : Meaning) (held : Held) → IsKeptThere g m o k held
-    → IsKeptThere g m o (bare k) held
-to_bare g m None k held is = absurd is
-to_bare g m (Some h) (Scalar kind type range) held is = is
-to_bare g m (Some h) (Array kind type size range) held is = is
-to_bare g m (Some h) (Constant type value) held is = is
-to_bare g m (Some h) (Channel type) held is = is
-to_bare g m (Some h) (Channels type size) held is = is
-to_bare g m (Some h) (Procedure number) held is = is
-
-from_bare : (g : Ground) (m : Memory) (o : Option Home) (k : Meaning) (held : Held) → IsKeptThere g m o (bare k) held
-    → IsKeptThere g m o k held
-from_bare g m None k held is = absurd is
-from_bare g m (Some h) (Scalar kind type range) held is = is
-from_bare g m (Some h) (Array kind type size range) held is = is
-from_bare g m (Some h) (Constant type value) held is = is
-from_bare g m (Some h) (Channel type) held is = is
-from_bare g m (Some h) (Channels type size) held is = is
-from_bare g m (Some h) (Procedure number) held is = is
+bare_kept : (g : Ground) (m : Memory) (o : Option Home) (k : Meaning) (held : Held)
+    → IsKeptThere g m o k held ↔ IsKeptThere g m o (bare k) held
+bare_kept g m (Some h) (Scalar kind type range) held = (λ is. is, λ is. is)
+bare_kept g m o k held = (λ is. is, λ is. is)
 
 words_bare : (k : Meaning) → words_held (bare k) ≡ words_held k
 words_bare (Scalar kind type range) = refl
-words_bare (Array kind type size range) = refl
-words_bare (Constant type value) = refl
-words_bare (Channel type) = refl
-words_bare (Channels type size) = refl
-words_bare (Procedure number) = refl
+words_bare k = refl
 
 end_bare : (o : Option Home) (j k : Meaning) → bare j ≡ bare k → end_of o j ≡ end_of o k
-end_bare None j k same = refl
-end_bare (Some Nowhere) j k same = refl
 end_bare (Some (Word w)) j k same = λ i. w + (sym (words_bare j) ∙ ap words_held same ∙ words_bare k) i
-end_bare (Some (Block w head)) j k same = refl
-end_bare (Some (Link number)) j k same = refl
-end_bare (Some (home.Table values)) j k same = refl
-end_bare (Some (Passed w)) j k same = refl
+end_bare o j k same = refl
 
-to_bare_inside : (words : ℕ) (o : Option Home) (k : Meaning) → IsInside words o k → IsInside words o (bare k)
-to_bare_inside words None k inside = inside
-to_bare_inside words (Some Nowhere) k inside = inside
-to_bare_inside words (Some (Word w)) (Constant type value) inside = inside
-to_bare_inside words (Some (Word w)) (Scalar kind type range) inside = inside
-to_bare_inside words (Some (Word w)) (Array kind type size range) inside = inside
-to_bare_inside words (Some (Word w)) (Channel type) inside = tt
-to_bare_inside words (Some (Word w)) (Channels type size) inside = tt
-to_bare_inside words (Some (Word w)) (Procedure number) inside = inside
-to_bare_inside words (Some (Block w head)) k inside = inside
-to_bare_inside words (Some (Link number)) k inside = inside
-to_bare_inside words (Some (home.Table values)) k inside = inside
-to_bare_inside words (Some (Passed w)) k inside = inside
-
-from_bare_inside : (words : ℕ) (o : Option Home) (k : Meaning) → IsInside words o (bare k) → IsInside words o k
-from_bare_inside words None k inside = inside
-from_bare_inside words (Some Nowhere) k inside = inside
-from_bare_inside words (Some (Word w)) (Constant type value) inside = inside
-from_bare_inside words (Some (Word w)) (Scalar kind type range) inside = inside
-from_bare_inside words (Some (Word w)) (Array kind type size range) inside = inside
-from_bare_inside words (Some (Word w)) (Channel type) inside = tt
-from_bare_inside words (Some (Word w)) (Channels type size) inside = tt
-from_bare_inside words (Some (Word w)) (Procedure number) inside = inside
-from_bare_inside words (Some (Block w head)) k inside = inside
-from_bare_inside words (Some (Link number)) k inside = inside
-from_bare_inside words (Some (home.Table values)) k inside = inside
-from_bare_inside words (Some (Passed w)) k inside = inside
+bare_inside : (words : ℕ) (o : Option Home) (k : Meaning) → IsInside words o k ↔ IsInside words o (bare k)
+bare_inside words (Some (Word w)) (Scalar kind type range) = (λ inside. inside, λ inside. inside)
+bare_inside words o k = (λ inside. inside, λ inside. inside)
 
 heads : {A : Type 0} (x y : A) (xs ys : List A) → x ∷ xs ≡ y ∷ ys → x ≡ y
 heads x y xs ys same = cc
@@ -115,10 +66,10 @@ same_kept g m (e ∷ es) [] env same kept = absurd (cc)
 same_kept g m (e ∷ es) (d ∷ ds) [] same kept = absurd kept
 same_kept g m (e ∷ es) (d ∷ ds) (b ∷ bs) same kept =
     let rest = rest_same e d es ds same in (
-      from_bare g m (slice_get g.homes (length ds)) d.meaning b.held
+      (bare_kept g m (slice_get g.homes (length ds)) d.meaning b.held).1
           (subst (λ (k : Meaning). IsKeptThere g m (slice_get g.homes (length ds)) k b.held) (first_same e d es ds same)
           (subst (λ (n : ℕ). IsKeptThere g m (slice_get g.homes n) (bare e.meaning) b.held) (as_many es ds rest)
-          (to_bare g m (slice_get g.homes (length es)) e.meaning b.held kept.0))),
+          ((bare_kept g m (slice_get g.homes (length es)) e.meaning b.held).0 kept.0))),
       same_kept g m es ds bs rest kept.1,
     )
 
@@ -137,7 +88,7 @@ same_rise hs (e ∷ es) (d ∷ ds) top same rise =
 
 inside_bare : (words : ℕ) (o : Option Home) (j k : Meaning) → bare j ≡ bare k → IsInside words o j → IsInside words o k
 inside_bare words o j k same inside =
-    from_bare_inside words o k (subst (IsInside words o) same (to_bare_inside words o j inside))
+    (bare_inside words o k).1 (subst (IsInside words o) same ((bare_inside words o j).0 inside))
 
 same_inside : (words : ℕ) (hs : List Home) (es ds : List Entry) → shape es ≡ shape ds → AreInside words hs es
     → AreInside words hs ds

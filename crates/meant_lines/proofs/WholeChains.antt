@@ -1,9 +1,8 @@
 -- What the code of a whole chain pushes.
-use Rattle.std.proofs.Common.{◌≡◌, ℕ, ◌+◌, ◌≤◌, ℤ, Bool, true, false, ◌&&◌, ◌||◌, cond, nat_le, List, ◌++◌}
-use Rattle.std.proofs.Common.{Option, Some, None, FitsSigned, refl, sym, ap, subst, ◌∙◌, arith}
+use Rattle.std.proofs.Common.{◌≡◌, ℕ, ◌+◌, ◌≤◌, ℤ, Bool, true, false, ◌&&◌, ◌||◌, List, ◌++◌}
+use Rattle.std.proofs.Common.{Option, Some, None, FitsSigned, refl, sym, ap, subst}
 use Rattle.std.specs.Prelude.{unwrap_or, IfSome}
 use Rattle.std.specs.Int.{w32}
-use Rattle.std.proofs.lemmas.Bool.{leb-true, le-leb}
 use Rattle.std.proofs.lemmas.List.{append-nil}
 use Rattle.word_arithmetic.proofs.BinaryLaws.{binary_gives_words}
 use Rattle.occam_parser.specs.declared.tree.ChainOperator.{ChainOperator}
@@ -16,6 +15,8 @@ use Rattle.scalar_ranges.proofs.Parts.{both_are}
 use Rattle.code_pieces.specs.Pieces.{Piece, word_after}
 use Rattle.line_pieces.specs.Expressions.{Operand, beside, term_code, terms_code, covered, are_small, is_small_term}
 use Rattle.line_pieces.specs.Expressions.{is_leaf_term, constant_or, first_two, joined, unless, is_known, added_by}
+use Rattle.placed_code.proofs.OperandsKeep.{kept_of}
+use Rattle.placed_code.proofs.FrontsCover.{covered_before, whole_or_uncovered}
 use Rattle.meant_lines.specs.Carrying.{Ground}
 use Rattle.meant_lines.specs.Pushing.{Pushed, Pushes, IsCounted}
 use Rattle.meant_lines.specs.OperatorLaws.{joined_value}
@@ -35,40 +36,15 @@ joined_fits op x y v x_fits y_fits is =
 
 -- ---- fronts
 
--- operands before one that is covered are covered
-covered_by : (p q : Bool) (front : Front) (n : ℕ) (c : ℤ) → nat_le (n + 1) front.operands ≡ p
-    → nat_le n front.operands ≡ q → cond p (Some front.value) None ≡ Some c → cond q (Some front.value) None ≡ Some c
-covered_by true true front n c more less is = is
-covered_by true false front n c more less is =
-    let far = leb-true (n + 1) front.operands more in
-    absurd (cc (sym less ∙ le-leb n front.operands (omega (arith, far))))
-covered_by false q front n c more less is = absurd (cc)
-
 still_covered : (front : Option Front) (n : ℕ) (c : ℤ) → covered front (n + 1) ≡ Some c → covered front n ≡ Some c
 still_covered None n c is = is
-still_covered (Some front) n c is =
-    covered_by (nat_le (n + 1) front.operands) (nat_le n front.operands) front n c refl refl is
-
--- Where one operand more is not covered, those before are the whole front or are not covered.
-ends_by : (p q : Bool) (f : Front) (n : ℕ) (u : ℤ) → nat_le (n + 1) f.operands ≡ p → nat_le n f.operands ≡ q
-    → cond p (Some f.value) None ≡ None → (f.operands ≡ n → u ≡ f.value)
-    → unwrap_or (cond q (Some f.value) None) u ≡ u
-ends_by true q f n u more less is same = absurd (cc)
-ends_by false false f n u more less is same = refl
-ends_by false true f n u more less is same =
-    sym (same (exactly (leb-true n f.operands less)))
-  where
-    not_more : n + 1 ≤ f.operands → ⊥
-    not_more far = absurd (cc (sym more ∙ le-leb (n + 1) f.operands far))
-
-    exactly : n ≤ f.operands → f.operands ≡ n
-    exactly far = omega (arith, far, not_more)
+still_covered (Some front) n c is = covered_before front n c is
 
 front_ends : (front : Option Front) (n : ℕ) (u : ℤ) → covered front (n + 1) ≡ None
     → ((f : Front) → front ≡ Some f → f.operands ≡ n → u ≡ f.value) → unwrap_or (covered front n) u ≡ u
 front_ends None n u is same = refl
 front_ends (Some f) n u is same =
-    ends_by (nat_le (n + 1) f.operands) (nat_le n f.operands) f n u refl refl is (same f refl)
+    whole_or_uncovered (λ o. unwrap_or o u) f n is (λ whole. sym (same f refl whole))
 
 same_value : (o : Option ℤ) (u c : ℤ) → o ≡ Some u → o ≡ Some c → u ≡ c
 same_value o u c first second = cc
@@ -79,10 +55,6 @@ here_of env op front (Two a b) is = is
 here_of env op front (Then ts x) is = is.1
 
 -- ---- chains
-
-kept_small : (small leaf : Bool) → (small && leaf) ≡ true → ((small || false) && leaf) ≡ true
-kept_small true leaf is = is
-kept_small false leaf is = absurd (cc is)
 
 first_small : (small leaf : Bool) → (small && leaf) ≡ true → small ≡ true
 first_small true leaf is = refl
@@ -132,7 +104,7 @@ module _ (g : Ground) (top t : ℕ) (es : List Entry) (env : Environment) (op : 
       (λ all h carries.
       fewer_kept g (code ++ joined t op (exact_value (bound_of_term es x)) (is_small_term es x)
       (term_code g.homes es (word_after t 1) x)) t (are_small es ts && is_leaf_term es x)
-      ((are_small es ts || false) && is_leaf_term es x) v h (kept_small (are_small es ts) (is_leaf_term es x))
+      ((are_small es ts || false) && is_leaf_term es x) v h (kept_of (are_small es ts) false (is_leaf_term es x))
       (one_more_pushes g top t es env op code (term_code g.homes es (word_after t 1) x) false (are_small es ts)
       (is_leaf_term es x) (is_small_term es x) (exact_value (bound_of_term es x)) u y v h meets low few before.0
       second.fits pushes second.pushes.second second.known gives all carries))

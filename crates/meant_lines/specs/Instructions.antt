@@ -6,23 +6,17 @@ use Rattle.prefix_decoder.specs.declared.function.Fun.TheVariants as fun
 use Rattle.word_arithmetic.specs.Word.{least_word, checked_sum, truth, word_not}
 use Rattle.word_arithmetic.specs.Binary.{computed}
 use Rattle.word_arithmetic.specs.declared.binary.Binary.{Binary}
-use Rattle.word_arithmetic.specs.declared.binary.Binary.TheVariants as binary
 use Rattle.module_format.specs.Stack.{reversed, with_top}
-use Rattle.machine_state.specs.declared.op.Op.TheVariants as ops
 use Rattle.machine_state.specs.declared.op.Shift.{Shift}
-use Rattle.machine_state.specs.declared.op.Shift.TheVariants as shifts
-use Rattle.machine_state.specs.Instructions.{op_of}
 use Rattle.machine_state.specs.LocalStep.{address, word_of, shift_result, copied}
 use Rattle.machine_state.specs.Memory.{Memory, place_of, local_address, word_at, byte_at, with_word, with_byte}
 use Rattle.machine_state.specs.Memory.{byte_worth}
 use Rattle.plain_machine.specs.PlainStep.{plain_popped}
-use Rattle.code_pieces.specs.declared.operations.TheConstants.{REVERSE, LOAD_BYTE, BYTE_SUBSCRIPT, DIFFERENCE, ADD}
-use Rattle.code_pieces.specs.declared.operations.TheConstants.{PRODUCT, GREATER, WORD_SUBSCRIPT, SUBTRACT}
-use Rattle.code_pieces.specs.declared.operations.TheConstants.{REMAINDER, DIVIDE, NOT, EXCLUSIVE_OR, STORE_BYTE}
-use Rattle.code_pieces.specs.declared.operations.TheConstants.{SHIFT_RIGHT, SHIFT_LEFT, MINIMUM_INTEGER, AND, MOVE}
-use Rattle.code_pieces.specs.declared.operations.TheConstants.{OR, SUM, MULTIPLY}
+use Rattle.code_pieces.specs.declared.operations.TheConstants.{REVERSE, LOAD_BYTE, BYTE_SUBSCRIPT, WORD_SUBSCRIPT}
+use Rattle.code_pieces.specs.declared.operations.TheConstants.{NOT, STORE_BYTE, MINIMUM_INTEGER, MOVE}
 use Rattle.code_pieces.specs.Pieces.{Piece, Direct, TableAddress, operates, loads, stores, points, constant, moves}
 use Rattle.code_pieces.specs.Pieces.{below}
+use Rattle.placed_code.specs.OperandsName.{IsBinary, IsShift, OperandsName}
 use Rattle.placed_code.specs.StraightPieces.{Footing, Held, LeadOn, with_pushed, word_address, word_place}
 use Rattle.meant_lines.specs.Words.{IsInFrame, Holds, with_frame_word}
 
@@ -137,13 +131,6 @@ ConstantsAreCompared = (w : Footing) (e : ℤ) (h : Held)
 abbrev pub BitsAreTurned : Type 0
 BitsAreTurned = (w : Footing) (h : Held) → PieceLeads w (operates NOT) h (with_a (word_not h.stack.a) h)
 
--- which operation an operand of `opr` is
-abbrev pub IsBinary : ℤ → Binary → Type 0
-IsBinary operation op = op_of operation ≡ Some (ops.Binary op)
-
-abbrev pub IsShift : ℤ → Shift → Type 0
-IsShift operation op = op_of operation ≡ Some (ops.Shift op)
-
 -- an operation of B and A that has a result
 abbrev pub OperationsAreComputed : Type 0
 OperationsAreComputed = (w : Footing) (operation : ℤ) (op : Binary) (v : ℤ) (h : Held)
@@ -156,21 +143,8 @@ WordsAreShifted = (w : Footing) (operation : ℤ) (op : Shift) (count : ℕ) (h 
     → IsShift operation op → address h.stack.a ≡ count
     → PieceLeads w (operates operation) h (with_result (shift_result op h.stack.b count) h)
 
-pub record OperandsNameOperations : Type 0 where
-  pub add : IsBinary ADD binary.Add
-  pub subtract : IsBinary SUBTRACT binary.Subtract
-  pub multiply : IsBinary MULTIPLY binary.Multiply
-  pub divide : IsBinary DIVIDE binary.Divide
-  pub remainder : IsBinary REMAINDER binary.Remainder
-  pub sum : IsBinary SUM binary.Sum
-  pub difference : IsBinary DIFFERENCE binary.Difference
-  pub product : IsBinary PRODUCT binary.Product
-  pub and : IsBinary AND binary.And
-  pub or : IsBinary OR binary.Or
-  pub exclusive_or : IsBinary EXCLUSIVE_OR binary.ExclusiveOr
-  pub greater : IsBinary GREATER binary.Greater
-  pub left : IsShift SHIFT_LEFT shifts.Left
-  pub right : IsShift SHIFT_RIGHT shifts.Right
+abbrev pub OperandsNameOperations : Type 0
+OperandsNameOperations = OperandsName
 
 -- ---- several
 

@@ -24,7 +24,7 @@ use Rattle.code_pieces.specs.Pieces.{Piece, operates, word_after}
 use Rattle.placed_code.specs.StraightPieces as pieces
 use Rattle.line_pieces.specs.Expressions.{Operand, both, comes_last, pushed, pushes_of, pair_code}
 use Rattle.line_pieces.specs.Expressions.{is_left_first, prefix_code, first_two, joined, added_by, chain_operation}
-use Rattle.meant_lines.specs.Instructions.{IsBinary}
+use Rattle.placed_code.specs.OperandsName.{IsBinary}
 use Rattle.meant_lines.specs.Carrying.{Ground, Carries}
 use Rattle.meant_lines.specs.Pushing.{AllStandOn, IsCounted, OperandPushes, Pushed, Pushes, PushedBoth}
 use Rattle.meant_lines.specs.Pushing.{keeps}

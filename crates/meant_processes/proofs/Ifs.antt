@@ -197,7 +197,7 @@ module _ (p : Program) (none : BreaksNoRule p.items) (conditions : ConditionsPus
       let m = after_components a (Mark mark.If) cs (begin k) in
       let all = and_parts (components_have_words cs) (has_words e && process_has_words q) words in
       let both = and_parts (has_words e) (process_has_words q) all.1 in
-      let h = components_stay a ns (Mark mark.If) cs k made (covers_itself ns) there.low in
+      let h = components_stay a ns (Mark mark.If) cs k made (covers_itself ns) there.sited.low in
       let x : Known = record { entries = h.start; blocks = record { start = h.start; ends = h.ends } ∷ k.blocks } in
       let alike = within_shape ns h.start k.entries h.starts in
       let y = after.chosen e x in

@@ -5,6 +5,7 @@ pub mod Housed
 pub mod Linked
 pub mod Ports
 pub mod Behaving
+pub mod EachProcess
 pub mod CodeParts
 pub mod Choices
 pub mod Loops

@@ -12,7 +12,7 @@ use Rattle.scalar_ranges.specs.Environments.{Environment}
 use Rattle.program_meaning.specs.Sequential.{IsSequentialAction}
 use Rattle.program_meaning.specs.Doing.{acting}
 use Rattle.code_pieces.specs.declared.operations.TheConstants.{STOP_PROCESS}
-use Rattle.code_pieces.specs.Pieces.{Code, Row, operates}
+use Rattle.code_pieces.specs.Pieces.{Code, Piece, Row, operates, written}
 use Rattle.line_pieces.specs.Actions.{action_code, assign_code, input_code, output_code}
 use Rattle.line_pieces.specs.Declarations.{Frame, facts_in}
 use Rattle.placed_code.specs.LaidCode.{LaidCode, Lie}
@@ -20,6 +20,7 @@ use Rattle.placed_code.specs.Behaves.{any, over}
 use Rattle.meant_actions.proofs.Actions.{actions_behave}
 use Rattle.meant_actions.proofs.Checked.{checked_actions_are_ready}
 use Rattle.meant_actions.proofs.Exchanging.{roots_are_undisturbed}
+use Rattle.meant_code.specs.Labels.{AreStraight}
 use Rattle.meant_code.proofs.StraightLines.{assign_is, input_is, output_is}
 use Rattle.meant_processes.specs.Actions.{ReachedLinesBehave}
 use Rattle.meant_processes.specs.Lying.{LieApart, PiecesBehave}
@@ -30,36 +31,34 @@ use Rattle.meant_processes.proofs.Housed.{arrays_housed, no_references, scalars_
 use Rattle.meant_processes.proofs.Ports.{reached_port}
 use Rattle.meant_processes.proofs.Lying.{straight_lie, stop_lies}
 
+-- straight code of a line lies as ever
+written_lies : (c : LaidCode) (at_row : Bool) (at to : ℕ) (ps : List Piece) (label : ℕ) (code : Code) → AreStraight ps
+    → written ps label ≡ Some code → LieApart c at_row at code.pieces to → Lie c at code.pieces to
+written_lies c at_row at to ps label code straight is lie =
+    let same = written_is ps label code is in
+    subst (λ qs. Lie c at qs to) (sym same)
+    (straight_lie c at_row at to ps straight (subst (λ qs. LieApart c at_row at qs to) same lie))
+
 -- the code of an action lies as ever: no two rows are in it
 action_lies : (c : LaidCode) (at_row : Bool) (at to : ℕ) (f : Frame) (es : List Entry) (label : ℕ) (action : Action)
     (code : Code) → action_code f es label action ≡ Some code → LieApart c at_row at code.pieces to
     → Lie c at code.pieces to
 action_lies c at_row at to f es label Skip code is lie =
-    subst (λ ps. Lie c at ps to) (sym (written_is [] label code is))
-    (straight_lie c at_row at to [] tt (subst (λ ps. LieApart c at_row at ps to) (written_is [] label code is) lie))
+    written_lies c at_row at to [] label code tt is lie
 action_lies c at_row at to f es label Stop code is lie =
     let ps = operates STOP_PROCESS ∷ Row label (facts_in f es) ∷ [] in
     let same = written_is ps (label + 1) code is in
     subst (λ qs. Lie c at qs to) (sym same)
     (stop_lies c at_row at to label (facts_in f es) (subst (λ qs. LieApart c at_row at qs to) same lie))
 action_lies c at_row at to f es label (Assign target value) code is lie =
-    let ps = assign_code f.homes es f.top target value in
-    let same = written_is ps label code is in
-    subst (λ qs. Lie c at qs to) (sym same)
-    (straight_lie c at_row at to ps (assign_is f.homes es f.top target value)
-    (subst (λ qs. LieApart c at_row at qs to) same lie))
+    written_lies c at_row at to (assign_code f.homes es f.top target value) label code
+    (assign_is f.homes es f.top target value) is lie
 action_lies c at_row at to f es label (Input channel target) code is lie =
-    let ps = input_code f.homes es f.top channel target in
-    let same = written_is ps label code is in
-    subst (λ qs. Lie c at qs to) (sym same)
-    (straight_lie c at_row at to ps (input_is f.homes es f.top channel target)
-    (subst (λ qs. LieApart c at_row at qs to) same lie))
+    written_lies c at_row at to (input_code f.homes es f.top channel target) label code
+    (input_is f.homes es f.top channel target) is lie
 action_lies c at_row at to f es label (Output channel value) code is lie =
-    let ps = output_code f.homes es f.top channel value in
-    let same = written_is ps label code is in
-    subst (λ qs. Lie c at qs to) (sym same)
-    (straight_lie c at_row at to ps (output_is f.homes es f.top channel value)
-    (subst (λ qs. LieApart c at_row at qs to) same lie))
+    written_lies c at_row at to (output_code f.homes es f.top channel value) label code
+    (output_is f.homes es f.top channel value) is lie
 action_lies c at_row at to f es label (Instance name actuals) code is lie = absurd (cc is)
 
 -- an action that is no instance
@@ -81,10 +80,10 @@ action_behaves p none root first line action s turns env c reached there sequent
         holds = there.holds;
         count = length p.around.signatures;
         whole = right.whole.entries;
-        scalars = λ name type range means. scalars_housed s.frame.homes es name type range there.housed means;
-        references = λ name type range means. no_references es name type range there.own means;
+        scalars = λ name type range means. scalars_housed s.frame.homes es name type range there.sited.housed means;
+        references = λ name type range means. no_references es name type range there.sited.own means;
         arrays = λ name type size range means.
-            arrays_housed s.frame.homes es name type size range there.housed means;
+            arrays_housed s.frame.homes es name type size range there.sited.housed means;
       }) (reached_port p none first line action s turns env reached there) right.holds words sequential in
       goes_on_behind p.code
       (actions_behave p.code g s.frame at to s.label es env h p.ports action c refl

@@ -183,26 +183,37 @@ faces : (way : Direction) (port : Port) → port.way ≡ way → facing way (Som
 faces direction.Input port is = ap (λ (d : Direction). cond (is_same_way d direction.Input) (Some port) None) is
 faces direction.Output port is = ap (λ (d : Direction). cond (is_same_way d direction.Output) (Some port) None) is
 
--- a channel that is a link is a port
-link_port : (p : Program) (g : Ground) (es : List Entry) (env : Environment) (way : Direction) (name : List ℕ)
-    (type : ValueType) → Meets env es
+-- A channel is a link of main, and it is used the way of its name.
+pub record IsUsed (p : Program) (es : List Entry) (way : Direction) (name : List ℕ) (subscript : Option Expression)
+    : Type 0 where
+  pub whole : subscript ≡ None
+  pub type : ValueType
+  pub means : meaning_in name es ≡ Some (Channel type)
+  pub found : Found p es name (Channel type)
+  pub link : IsLink p found.n name type
+  pub way_is : link.port.way ≡ way
+
+-- then it is a port
+pub link_port : (p : Program) (g : Ground) (es : List Entry) (env : Environment) (way : Direction) (name : List ℕ)
+    (subscript : Option Expression) → Meets env es
     → ((n : ℕ) (port : Port) → item_at n p.ports ≡ Some (Some port) → slice_get g.homes n ≡ Some (Link (link_of port)))
-    → meaning_in name es ≡ Some (Channel type) → (f : Found p es name (Channel type)) → IsLink p f.n name type
-    → ((is_inside p.position f.n && is_right_way p.position name f.n way) ≡ false → ⊥)
-    → (port : Port) × IsPort g es env p.ports way (record { name = name; subscript = None }) port
-link_port p g es env way name type meets homes means f x right =
+    → IsUsed p es way name subscript
+    → (port : Port) × IsPort g es env p.ports way (record { name = name; subscript = subscript }) port
+link_port p g es env way name subscript meets homes used =
+    let x = used.link in
     let port = x.port in
-    let way_same = way_is p f.n name way type x right in
-    let held = numbers_agree name es env meets ∙ f.number in (
+    let held = numbers_agree name es env meets ∙ used.found.number in
+    subst (λ (o : Option Expression).
+    (port : Port) × IsPort g es env p.ports way (record { name = name; subscript = o }) port) (sym used.whole) (
       port,
       record {
         is = ap (λ (o : Option ℕ). facing way (option_and_then (λ n. unwrap_or (item_at n p.ports) None) o)) held
-            ∙ ap (λ (o : Option (Option Port)). facing way (unwrap_or o None)) x.is ∙ faces way port way_same;
-        faces = way_same;
+            ∙ ap (λ (o : Option (Option Port)). facing way (unwrap_or o None)) x.is ∙ faces way port used.way_is;
+        faces = used.way_is;
         link = x.link;
-        at = ap (option_and_then (slice_get g.homes)) f.number ∙ homes f.n port x.is
-            ∙ ap (λ n. Some (Link n)) (home_is way port way_same);
-        carries = ap carried means ∙ sym x.carries;
+        at = ap (option_and_then (slice_get g.homes)) used.found.number ∙ homes used.found.n port x.is
+            ∙ ap (λ n. Some (Link n)) (home_is way port used.way_is);
+        carries = ap carried used.means ∙ sym x.carries;
       },
     )
 
@@ -210,26 +221,30 @@ link_port p g es env way name type meets homes means f x right =
 unusable : (p : Program) (n : ℕ) (b : Bool) → is_inside p.position n ≡ false → (is_inside p.position n && b) ≡ false
 unusable p n b inner = ap (λ t. t && b) inner
 
--- So the channel of an action that breaks no rule is a port.
-pub channel_port : (p : Program) (g : Ground) (es : List Entry) (env : Environment) (way : Direction) (name : List ℕ)
-    (subscript : Option Expression) (m : Option Meaning) (t : ExprType) → Meets env es
-    → ((n : ℕ) (port : Port) → item_at n p.ports ≡ Some (Some port) → slice_get g.homes n ≡ Some (Link (link_of port)))
-    → AreLinked p (shape es) → meaning_in name es ≡ m → channel_type m (is_subscripted subscript) ≡ Ok t
+-- So the channel of an action that breaks no rule is one.
+pub channel_used : (p : Program) (es : List Entry) (way : Direction) (name : List ℕ) (subscript : Option Expression)
+    (m : Option Meaning) (t : ExprType) → AreLinked p (shape es) → meaning_in name es ≡ m
+    → channel_type m (is_subscripted subscript) ≡ Ok t
     → ((n : ℕ) → number_in name es ≡ Some n
     → (is_inside p.position n && is_right_way p.position name n way) ≡ false → ⊥)
-    → (port : Port) × IsPort g es env p.ports way (record { name = name; subscript = subscript }) port
-channel_port p g es env way name None (Some (Channel type)) t meets homes linked means is right =
+    → IsUsed p es way name subscript
+channel_used p es way name None (Some (Channel type)) t linked means is right =
     let f = found_linked p es name (Channel type) linked means in by f f.linked
   where
     by : (f : Found p es name (Channel type)) → IsLink p f.n name type ⊎ (is_inside p.position f.n ≡ false)
-        → (port : Port) × IsPort g es env p.ports way (record { name = name; subscript = None }) port
-    by f (inl x) = link_port p g es env way name type meets homes means f x (right f.n f.number)
+        → IsUsed p es way name None
+    by f (inl x) = record {
+      whole = refl;
+      type = type;
+      means = means;
+      found = f;
+      link = x;
+      way_is = way_is p f.n name way type x (right f.n f.number);
+    }
     by f (inr inner) =
         absurd (right f.n f.number (unusable p f.n (is_right_way p.position name f.n way) inner))
-channel_port p g es env way name (Some e) (Some (entries.Channels type size)) t meets homes linked means is right =
+channel_used p es way name (Some e) (Some (entries.Channels type size)) t linked means is right =
     let f = found_linked p es name (entries.Channels type size) linked means in
     absurd (right f.n f.number (unusable p f.n (is_right_way p.position name f.n way) f.linked))
-channel_port p g es env way name None None t meets homes linked means is right = absurd (cc is)
-channel_port p g es env way name (Some e) None t meets homes linked means is right = absurd (cc is)
-channel_port p g es env way name None (Some m) t meets homes linked means is right = absurd (cc is)
-channel_port p g es env way name (Some e) (Some m) t meets homes linked means is right = absurd (cc is)
+channel_used p es way name subscript None t linked means is right = absurd (cc is)
+channel_used p es way name subscript (Some m) t linked means is right = absurd (cc is)

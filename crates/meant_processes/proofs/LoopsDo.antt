@@ -4,7 +4,7 @@ use Rattle.std.proofs.Common.{List, [], ◌∷◌, ◌++◌, length, Option, Som
 use Rattle.std.specs.Prelude.{int_lt, slice_get}
 use Rattle.std.specs.Int.{w32}
 use Rattle.std.proofs.lemmas.Int.{ints}
-use Rattle.word_arithmetic.specs.Range.{Ends, InRange, full}
+use Rattle.word_arithmetic.specs.Range.{Ends, InRange}
 use Rattle.word_arithmetic.specs.Word.{is_word}
 use Rattle.word_arithmetic.proofs.WordLaws.{is_word_out}
 use Rattle.module_format.specs.declared.limits.TheConstants.{MAX_DATA_WORDS}
@@ -17,7 +17,7 @@ use Rattle.scalar_ranges.specs.Entries.{Entry, Meaning, Scalar}
 use Rattle.scalar_ranges.specs.Environments.{Environment, Held, One}
 use Rattle.scalar_ranges.specs.MoveLaws.{shape}
 use Rattle.scalar_ranges.specs.Moves.{Known, begin_loop, outermost, widen}
-use Rattle.scalar_ranges.proofs.MoveLaws.{as_long, shape_long, shapes_stay}
+use Rattle.scalar_ranges.proofs.MoveLaws.{as_long, shapes_stay}
 use Rattle.scalar_ranges.proofs.Nesting.{long_alike}
 use Rattle.program_uses.specs.Changes.{changed_by}
 use Rattle.program_uses.specs.Declaring.{add}
@@ -34,7 +34,6 @@ use Rattle.usage_checks.specs.AfterProcesses.{inside}
 use Rattle.usage_checks.specs.ItemRules.{BreaksNoRule}
 use Rattle.usage_checks.specs.NameRules.{with_entries}
 use Rattle.usage_checks.specs.Reaching.{AComponent, Reaches, to_process}
-use Rattle.usage_checks.proofs.ActionsGoWell.{of_main_alike, of_main_more}
 use Rattle.usage_checks.proofs.RangesStay.{Covers, all_but_one, process_stays}
 use Rattle.code_pieces.specs.declared.piece.RowEntry.{RowEntry}
 use Rattle.code_pieces.specs.Pieces.{Code, LoopBack, Row, counted, points, stores, word_after}
@@ -51,14 +50,13 @@ use Rattle.meant_lines.proofs.Instructions.{constants_are_pushed, then_leads, wo
 use Rattle.meant_lines.proofs.Shapes.{same_shapes_carry}
 use Rattle.meant_lines.proofs.Words.{changes_both, changes_writing, frame_words_read_back}
 use Rattle.meant_processes.specs.Lying.{PiecesBehave}
-use Rattle.meant_processes.specs.Places.{AllFit, AreHoused, AreLinked, CarriedAt, IsPlaced, Program, ground, standing, surroundings}
+use Rattle.meant_processes.specs.Places.{AllFit, CarriedAt, IsPlaced, Program, ground, standing, surroundings}
 use Rattle.meant_processes.proofs.Behaving.{Led, pieces_well, straight_before}
 use Rattle.meant_processes.proofs.Carried.{left_below, left_here, loop_opened, scope_left, with_left}
-use Rattle.meant_processes.proofs.Housed.{housed_more}
 use Rattle.meant_processes.proofs.Indices.{IndicesStay, indices_left, indices_then, shape_outermost}
 use Rattle.meant_processes.proofs.Loops.{Turns, counted_turn, loop_behaves}
 use Rattle.meant_processes.proofs.LoopWords.{back_is, more_than_one, not_more, turned_last, turned_once}
-use Rattle.meant_processes.proofs.Placing.{Left, got_below, home_behind, process_true}
+use Rattle.meant_processes.proofs.Placing.{Left, home_behind, process_true, sited_more}
 use Rattle.meant_processes.proofs.Sequences.{ProcessBehaves, indices_here, pieces_left}
 
 -- ---- the words of a loop's block
@@ -170,33 +168,15 @@ module _ (p : Program) (none : BreaksNoRule p.items) (q : Process) (s : Site) (t
 
     inner_placed : (k : ℕ) (e : Environment) → k < count → IsTrueIn (widen ns s.known.entries) e
         → IsPlaced p body_site (with_index name base k e)
-    inner_placed k e less holds =
-        let main = of_main_more (record { ports = p.ports; listens = [] })
-        (record { name = name; meaning = Scalar scalar.Index value_type.Int full }) (shape (widen ns s.known.entries)) tt
-        (of_main_alike (record { ports = p.ports; listens = [] }) (widen ns s.known.entries) s.known.entries wide_alike
-        (record { own = x.there.own; ports = x.there.channels })) in
-        let long = x.there.long in
-        record {
-          counted = x.there.counted;
-          own = main.own;
-          channels = main.ports;
-          links = λ n port at.
-              let got = x.there.links n port at in
-              get_before s.frame.homes (Block s.frame.top s.label) n (got_below s.frame.homes n _ got) ∙ got;
-          housed = housed_more s.frame.homes (Block s.frame.top s.label)
-              (record { name = name; meaning = Scalar scalar.Index value_type.Int full })
-              (shape (widen ns s.known.entries)) (long ∙ sym wide_long ∙ sym (shape_long (widen ns s.known.entries))) tt
-              (subst (AreHoused s.frame.homes) (sym wide_alike) x.there.housed);
-          linked = (tt, subst (AreLinked p) (sym wide_alike) x.there.linked);
-          declared = let inner = x.there.declared in let same = wide_long in omega (arith, inner, same);
-          alone = let outer = x.there.alone in let same = wide_long in omega (arith, outer, same);
-          low = omega arith;
-          long = home_behind s.frame.homes (Block s.frame.top s.label) ∙ ap suc (long ∙ sym wide_long);
-          holds = record {
-            meets = (refl, x.lies k less, holds.meets);
-            typed = (is_word_out (base +ℤ pos k) (x.is_index k less), holds.typed);
-          };
-        }
+    inner_placed k e less holds = record {
+      sited = sited_more p s body_site (Block s.frame.top s.label) (record { name = name; meaning = index })
+          (widen ns s.known.entries) x.there.sited x.there.long refl refl wide_alike tt tt tt (omega arith);
+      long = home_behind s.frame.homes (Block s.frame.top s.label) ∙ ap suc (x.there.long ∙ sym wide_long);
+      holds = record {
+        meets = (refl, x.lies k less, holds.meets);
+        typed = (is_word_out (base +ℤ pos k) (x.is_index k less), holds.typed);
+      };
+    }
 
     -- the environment that a turn leaves
     true_again : (e after : Environment) → IsTrueIn (widen ns s.known.entries) e

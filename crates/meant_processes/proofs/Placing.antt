@@ -3,6 +3,7 @@ use Rattle.std.proofs.Common.{◌≡◌, ℕ, zero, suc, ◌<◌, ◌≤◌, ℤ
 use Rattle.std.proofs.Common.{Some, None, refl, sym, ap, subst, ◌∙◌, arith, IsSomeAnd}
 use Rattle.std.specs.List.{AllByRecursion}
 use Rattle.std.specs.Prelude.{option_map, slice_get}
+use Rattle.word_arithmetic.specs.Range.{full}
 use Rattle.machine_state.specs.Memory.{Memory}
 use Rattle.occam_parser.specs.Lines.{Channels, Constants, Declaration, Variables}
 use Rattle.occam_parser.specs.OneOrMore.{as_list}
@@ -12,7 +13,9 @@ use Rattle.scalar_ranges.specs.Entries.{Entry, Meaning}
 use Rattle.scalar_ranges.specs.Environments.{Environment, Held, Nothing}
 use Rattle.scalar_ranges.specs.MoveLaws.{meaning_at, shape}
 use Rattle.scalar_ranges.specs.Moves.{Known, begun_with, outermost}
+use Rattle.scalar_ranges.specs.Narrowing.{with_range}
 use Rattle.scalar_ranges.proofs.Found.{none_less}
+use Rattle.scalar_ranges.proofs.MoveLaws.{shape_long}
 use Rattle.scalar_ranges.proofs.Nesting.{further_out, long_alike}
 use Rattle.program_uses.specs.Declaring.{add, add_all, add_declaration, channel_meaning, variable_meaning}
 use Rattle.program_meaning.specs.Doing.{doing}
@@ -24,6 +27,7 @@ use Rattle.usage_checks.specs.AfterProcesses.{inside}
 use Rattle.usage_checks.specs.Holding.{DeclarationHolds}
 use Rattle.usage_checks.specs.ItemRules.{BreaksNoRule}
 use Rattle.usage_checks.specs.Reaching.{AProcess, Reaches}
+use Rattle.usage_checks.proofs.ActionsGoWell.{of_main_alike, of_main_more}
 use Rattle.usage_checks.proofs.ProcessesGoWell.{Stands, declared_of_main, declared_true, processes_go_well}
 use Rattle.usage_checks.proofs.RangesStay.{declared_long}
 use Rattle.line_pieces.specs.Homes as home
@@ -33,8 +37,9 @@ use Rattle.line_pieces.specs.Declarations.{words_in}
 use Rattle.code_generator.specs.Processes.{Site, at_place, with_declaration}
 use Rattle.meant_lines.proofs.Housing.{get_before}
 use Rattle.meant_lines.proofs.Shapes.{same_shapes_carry}
-use Rattle.meant_processes.specs.Places.{AreHoused, AreLinked, CarriedAt, IsOwn, IsPlaced, Program, ground, standing}
-use Rattle.meant_processes.proofs.Housed.{declared_housed}
+use Rattle.meant_processes.specs.Places.{AreHoused, AreLinked, CarriedAt, IsHoused, IsLinked, IsOwn, IsPlaced, IsSited}
+use Rattle.meant_processes.specs.Places.{Program, ground, standing}
+use Rattle.meant_processes.proofs.Housed.{declared_housed, housed_more}
 use Rattle.meant_processes.proofs.Linked.{declared_linked}
 use Rattle.meant_processes.proofs.Indices.{IndicesStay, WhatLeaves, all_leaves}
 
@@ -48,9 +53,9 @@ pub stands_there : (p : Program) (s : Site) (env : Environment) (listens : List 
     → IsPlaced p s env
     → Stands (record { ports = p.ports; listens = listens }) (standing p) s.known env
 stands_there p s env listens placed = record {
-  counted = placed.counted;
-  main = record { own = placed.own; ports = placed.channels };
-  low = placed.low;
+  counted = placed.sited.counted;
+  main = record { own = placed.sited.own; ports = placed.sited.channels };
+  low = placed.sited.low;
   holds = placed.holds;
 }
 
@@ -68,19 +73,26 @@ process_true p first process s env none reached sequential words placed =
 
 -- ---- another place with the same frame
 
+-- the same names with other ranges
+pub sited_alike : (p : Program) (s : Site) (k : Known) (label : ℕ) → IsSited p s
+    → shape k.entries ≡ shape s.known.entries → begun_with k.blocks ≤ length k.entries → IsSited p (at_place k label s)
+sited_alike p s k label sited same low = record {
+  counted = sited.counted;
+  own = subst (λ (es : List Entry). AllByRecursion (λ e. IsOwn e.meaning) es) (sym same) sited.own;
+  channels = λ n port is. ap (meaning_at n) same ∙ sited.channels n port is;
+  links = sited.links;
+  housed = subst (AreHoused s.frame.homes) (sym same) sited.housed;
+  linked = subst (AreLinked p) (sym same) sited.linked;
+  declared = subst (λ n. p.position.declared ≤ n) (sym (long_alike k.entries s.known.entries same)) sited.declared;
+  alone = subst (λ n. p.position.parallel ≤ n) (sym (long_alike k.entries s.known.entries same)) sited.alone;
+  low = low;
+}
+
 pub placed_alike : (p : Program) (s : Site) (k : Known) (label : ℕ) (env after : Environment) → IsPlaced p s env
     → shape k.entries ≡ shape s.known.entries → begun_with k.blocks ≤ length k.entries → IsTrueIn k.entries after
     → IsPlaced p (at_place k label s) after
 placed_alike p s k label env after placed same low holds = record {
-  counted = placed.counted;
-  own = subst (λ (es : List Entry). AllByRecursion (λ e. IsOwn e.meaning) es) (sym same) placed.own;
-  channels = λ n port is. ap (meaning_at n) same ∙ placed.channels n port is;
-  links = placed.links;
-  housed = subst (AreHoused s.frame.homes) (sym same) placed.housed;
-  linked = subst (AreLinked p) (sym same) placed.linked;
-  declared = subst (λ n. p.position.declared ≤ n) (sym (long_alike k.entries s.known.entries same)) placed.declared;
-  alone = subst (λ n. p.position.parallel ≤ n) (sym (long_alike k.entries s.known.entries same)) placed.alone;
-  low = low;
+  sited = sited_alike p s k label placed.sited same low;
   long = placed.long ∙ sym (long_alike k.entries s.known.entries same);
   holds = holds;
 }
@@ -145,6 +157,41 @@ declared_homes es (Variables n) f long =
 declared_homes es (Channels n) f long =
     names_long (channels_in es n.size) (channel_meaning es n.value_type n.size) (as_list n.names) f es long
 
+-- ---- a name more
+
+-- A place has a name more, whose home is this one, and the names before it may have other ranges.
+pub sited_more : (p : Program) (s t : Site) (h : Home) (e : Entry) (es : List Entry) → IsSited p s
+    → length s.frame.homes ≡ length s.known.entries → t.frame.homes ≡ s.frame.homes ++ h ∷ []
+    → t.known.entries ≡ e ∷ es → shape es ≡ shape s.known.entries → IsOwn (with_range (λ r. full) e.meaning)
+    → IsHoused (Some h) (with_range (λ r. full) e.meaning)
+    → IsLinked p (length (shape es)) e.name (with_range (λ r. full) e.meaning)
+    → begun_with t.known.blocks ≤ length t.known.entries → IsSited p t
+sited_more p s t h e es sited long homes entries same own housed linked low =
+    let first : Entry = record { name = e.name; meaning = with_range (λ r. full) e.meaning } in
+    let main = of_main_more (record { ports = p.ports; listens = [] }) first (shape es) own
+    (of_main_alike (record { ports = p.ports; listens = [] }) es s.known.entries same
+    (record { own = sited.own; ports = sited.channels })) in
+    let inner = long_alike es s.known.entries same in
+    let all = ap (λ (xs : List Entry). length xs) entries in
+    let further : length s.known.entries ≤ length t.known.entries = omega (arith, inner, all) in
+    record {
+      counted = sited.counted;
+      own = subst (λ (xs : List Entry). AllByRecursion (λ x. IsOwn x.meaning) (shape xs)) (sym entries) main.own;
+      channels = λ n port at. ap (λ (xs : List Entry). meaning_at n (shape xs)) entries ∙ main.ports n port at;
+      links = λ n port at.
+          let got = sited.links n port at in
+          ap (λ (hs : List Home). slice_get hs n) homes
+          ∙ get_before s.frame.homes h n (got_below s.frame.homes n _ got) ∙ got;
+      housed = subst (λ (x : List Home × List Entry). AreHoused x.0 (shape x.1)) (λ i. (sym homes i, sym entries i))
+          (housed_more s.frame.homes h first (shape es) (long ∙ sym inner ∙ sym (shape_long es)) housed
+          (subst (AreHoused s.frame.homes) (sym same) sited.housed));
+      linked = subst (λ (xs : List Entry). AreLinked p (shape xs)) (sym entries)
+          (linked, subst (AreLinked p) (sym same) sited.linked);
+      declared = let outside = sited.declared in omega (arith, outside, further);
+      alone = let apart = sited.alone in omega (arith, apart, further);
+      low = low;
+    }
+
 -- ---- what is declared
 
 all_bound : (names : List (List ℕ)) (held : Held) (env : Environment) (n : ℕ) → n ≤ length env
@@ -190,29 +237,35 @@ true_at None P inner all is = absurd all
 true_at (Some x) P inner all is = let same : x ≡ inner = cc is in subst P same all
 
 -- behind a declaration
-pub placed_behind : (p : Program) (s : Site) (d : Declaration) (env inner : Environment) → IsPlaced p s env
-    → DeclarationHolds s.known.entries d → declaration_has_words d ≡ true → declare d env ≡ Some inner
-    → IsPlaced p (with_declaration d s) inner
-placed_behind p s d env inner placed right words is =
+pub sited_behind : (p : Program) (s : Site) (d : Declaration) → IsSited p s
+    → length s.frame.homes ≡ length s.known.entries → IsSited p (with_declaration d s)
+sited_behind p s d sited long =
     let es = s.known.entries in
     let main = declared_of_main (record { ports = p.ports; listens = [] }) es d
-    (record { own = placed.own; ports = placed.channels }) in
+    (record { own = sited.own; ports = sited.channels }) in
     let longer = declared_long d es in
-    let low = placed.low in
-    let outer = placed.declared in
-    let alone = placed.alone in
+    let low = sited.low in
+    let outer = sited.declared in
+    let alone = sited.alone in
     record {
-      counted = placed.counted;
+      counted = sited.counted;
       own = main.own;
       channels = main.ports;
       links = λ n port at.
-          declared_front es d s.frame n (got_below s.frame.homes n _ (placed.links n port at)) ∙ placed.links n port at;
-      housed = declared_housed es d s.frame placed.long placed.housed;
-      linked = declared_linked p es d placed.declared placed.alone placed.linked;
+          declared_front es d s.frame n (got_below s.frame.homes n _ (sited.links n port at)) ∙ sited.links n port at;
+      housed = declared_housed es d s.frame long sited.housed;
+      linked = declared_linked p es d sited.declared sited.alone sited.linked;
       declared = omega (arith, outer, longer);
       alone = omega (arith, alone, longer);
       low = omega (arith, low, longer);
-      long = declared_homes es d s.frame placed.long;
-      holds = true_at (declare d env) (IsTrueIn (add_declaration d es)) inner
-          (declared_true es env d right words placed.holds) is;
     }
+
+pub placed_behind : (p : Program) (s : Site) (d : Declaration) (env inner : Environment) → IsPlaced p s env
+    → DeclarationHolds s.known.entries d → declaration_has_words d ≡ true → declare d env ≡ Some inner
+    → IsPlaced p (with_declaration d s) inner
+placed_behind p s d env inner placed right words is = record {
+  sited = sited_behind p s d placed.sited placed.long;
+  long = declared_homes s.known.entries d s.frame placed.long;
+  holds = true_at (declare d env) (IsTrueIn (add_declaration d s.known.entries)) inner
+      (declared_true s.known.entries env d right words placed.holds) is;
+}

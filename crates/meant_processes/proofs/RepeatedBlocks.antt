@@ -55,7 +55,8 @@ use Rattle.code_pieces.specs.Pieces.{Code, closed_by, counted, word_after}
 use Rattle.code_pieces.proofs.AllOfPieces.{all_first, all_last}
 use Rattle.line_pieces.specs.Homes.{Nowhere}
 use Rattle.line_pieces.specs.Declarations.{facts_in, with_home}
-use Rattle.code_generator.specs.Processes.{NoChoice, PlacedChoices, Site, by_block, component_code, has_scalar, if_code}
+use Rattle.code_generator.specs.Processes.{NoChoice, PlacedChoices, Site, Surroundings, by_block, component_code}
+use Rattle.code_generator.specs.Processes.{has_scalar, if_code}
 use Rattle.code_generator.specs.Processes.{in_each_turn, in_loop, loop_code, loop_end, loop_start, no_loop, placed}
 use Rattle.code_generator.specs.Processes.{process_code, repeated_seq, row_of, times, turn_begun, value_or_zero}
 use Rattle.code_generator.specs.Processes.{with_ending}
@@ -130,20 +131,19 @@ turn_begins a word body name repeats ns counts k n =
     (turn_by_turn (λ n l. after_component a word body (with_entries (add name (index_in repeats n)) l)) n
     (begun_body word ns counts k))
 
-module _ (p : Program) (none : BreaksNoRule p.items) (conditions : ConditionsPush p) where
-  -- the code of a body by the word of its block
-  abbrev BodyCode : {part : Part} → Terminal → Component part → Bool → Replicator → (base count : ℤ) → Site → Known
-      → List ℕ → Code → Type 0
-  BodyCode word body counted r base count s after ns c =
-      let repeats = repeats_of counted s.known.entries (is_seq word) r in
-      let start = begun_body word ns repeats.happens s.known in
-      let inner = in_loop s start r.name (index_in repeats 0) in
-      by_block word
-      (repeated_seq s ns after base
-      (loop_code s inner after base count (component_code (surroundings p) body inner)) count)
-      (if_code s (with_home Nowhere s.frame) after (with_ending (in_each_turn
-      (λ n. placed (surroundings p) body (turn_begun p.around word r.name body repeats start n)) (times repeats)))) ≡ Some c
+-- the code of a body by the word of its block
+abbrev pub BodyCode : {part : Part} → Surroundings → Terminal → Component part → Bool → Replicator → (base count : ℤ)
+    → Site → Known → List ℕ → Code → Type 0
+BodyCode w word body counted r base count s after ns c =
+    let repeats = repeats_of counted s.known.entries (is_seq word) r in
+    let start = begun_body word ns repeats.happens s.known in
+    let inner = in_loop s start r.name (index_in repeats 0) in
+    by_block word
+    (repeated_seq s ns after base (loop_code s inner after base count (component_code w body inner)) count)
+    (if_code s (with_home Nowhere s.frame) after (with_ending (in_each_turn
+    (λ n. placed w body (turn_begun w.around word r.name body repeats start n)) (times repeats)))) ≡ Some c
 
+module _ (p : Program) (none : BreaksNoRule p.items) (conditions : ConditionsPush p) where
   abbrev BodyDoing : {part : Part} → Terminal → Component part → List ℕ → ℤ → ℕ → Environment → Doing
   BodyDoing word body name base count env =
       doing_by_word word
@@ -238,7 +238,7 @@ module _ (p : Program) (none : BreaksNoRule p.items) (conditions : ConditionsPus
       (changed_by_component p.around.signatures (add r.name (index_meaning (is_seq word) None) s.known.entries) body)
       (repeats_of counted s.known.entries (is_seq word) r).happens s.known n))
       → IsPlaced p s env
-      → BodyCode word body counted r h.base count s after
+      → BodyCode (surroundings p) word body counted r h.base count s after
       (changed_by_component p.around.signatures (add r.name (index_meaning (is_seq word) None) s.known.entries) body) c
       → AllFit p c.pieces
       → PiecesBehave p.code (CarriedAt p s turns env) c.pieces (Left p s turns env)
@@ -362,15 +362,16 @@ module _ (p : Program) (none : BreaksNoRule p.items) (conditions : ConditionsPus
         let ns = changed_by_component a.signatures (add r.name (index_meaning (is_seq word) None) es) body in
         let base_is : value_or_zero es r.base ≡ h.base = ap (λ (o : Option ℤ). unwrap_or o (pos 0)) h.base_is in
         let count_is : value_or_zero es r.count ≡ h.count = ap (λ (o : Option ℤ). unwrap_or o (pos 0)) h.count_is in
-        let code : BodyCode word body counted r h.base h.count s after ns c =
-        subst (λ x. BodyCode word body counted r h.base x s after ns c) count_is
-        (subst (λ x. BodyCode word body counted r x (value_or_zero es r.count) s after ns c) base_is is) in
+        let code : BodyCode (surroundings p) word body counted r h.base h.count s after ns c =
+        subst (λ x. BodyCode (surroundings p) word body counted r h.base x s after ns c) count_is
+        (subst (λ x. BodyCode (surroundings p) word body counted r x (value_or_zero es r.count) s after ns c) base_is
+        is) in
         subst (λ o. PiecesBehave p.code (CarriedAt p s turns env) c.pieces (Left p s turns env)
         (or_fails o (λ x. or_fails (number_of env r.count) (λ y.
         doing_body p.ports (One kind body) r.name x (running.turns y) env)))) (sym base)
         (subst (λ o. PiecesBehave p.code (CarriedAt p s turns env) c.pieces (Left p s turns env)
         (or_fails o (λ y. doing_body p.ports (One kind body) r.name h.base (running.turns y) env))) (sym count)
-        (body_by word body counted r h.count s turns env after c (ap (is_before line) there.counted) sequential
+        (body_by word body counted r h.count s turns env after c (ap (is_before line) there.sited.counted) sequential
         all.1 behaves h refl (word_value es env r.base h.base there.holds both.0 h.base_is)
         (word_value es env r.count h.count there.holds both.1 h.count_is)
         (λ n less. to_part t u first line whole (AComponent body) s.known _ reached (n, refl, refl, less, refl)) there code

@@ -20,7 +20,7 @@ use Rattle.scalar_ranges.specs.MoveLaws.{shape}
 use Rattle.scalar_ranges.specs.Moves as moves
 use Rattle.scalar_ranges.specs.Moves.{Known, begin, begun_with, excluded, next, outermost}
 use Rattle.scalar_ranges.specs.Values.{truth_of}
-use Rattle.scalar_ranges.proofs.MoveLaws.{as_long, shape_long, shapes_stay}
+use Rattle.scalar_ranges.proofs.MoveLaws.{as_long, shapes_stay}
 use Rattle.scalar_ranges.proofs.NarrowingLaws.{narrowing_holds}
 use Rattle.scalar_ranges.proofs.Nesting.{long_alike}
 use Rattle.program_uses.specs.Changes.{changed_by, changed_by_component}
@@ -39,7 +39,6 @@ use Rattle.usage_checks.specs.AfterProcesses.{after_component, inside}
 use Rattle.usage_checks.specs.ItemRules.{BreaksNoRule}
 use Rattle.usage_checks.specs.NameRules.{with_entries}
 use Rattle.usage_checks.specs.Reaching.{AComponent, Reaches, to_process}
-use Rattle.usage_checks.proofs.ActionsGoWell.{of_main_alike, of_main_more}
 use Rattle.usage_checks.proofs.ChoicesGoWell.{chosen_next, excluded_true}
 use Rattle.usage_checks.proofs.PlacesHold.{places_hold}
 use Rattle.usage_checks.proofs.RangesStay.{all_but_one, component_stays, covers_itself, ranges_stay, turns_turned}
@@ -48,14 +47,13 @@ use Rattle.line_pieces.specs.Declarations.{with_home}
 use Rattle.code_generator.specs.Processes.{Site, at_place, in_each_turn, placed}
 use Rattle.meant_lines.proofs.Housing.{get_before}
 use Rattle.meant_lines.proofs.Shapes.{same_shapes_carry}
-use Rattle.meant_processes.specs.Places.{AreHoused, AreLinked, CarriedAt, FitsIn, IsPlaced, Program, ground, standing, surroundings}
+use Rattle.meant_processes.specs.Places.{CarriedAt, FitsIn, IsPlaced, Program, ground, standing, surroundings}
 use Rattle.meant_processes.specs.Premises.{ConditionsPush}
 use Rattle.meant_processes.proofs.Carried.{index_opened, scope_left}
 use Rattle.meant_processes.proofs.Choices.{ChoiceMeans, ChoicesMean}
 use Rattle.meant_processes.proofs.Ifs.{carried_stays, chosen_none, else_none, shown}
-use Rattle.meant_processes.proofs.Housed.{housed_more}
 use Rattle.meant_processes.proofs.Indices.{IndicesStay, indices_left, shape_outermost}
-use Rattle.meant_processes.proofs.Placing.{Left, carried_alike, got_below, home_behind, left_alike, placed_alike}
+use Rattle.meant_processes.proofs.Placing.{Left, carried_alike, home_behind, left_alike, placed_alike, sited_more}
 use Rattle.meant_processes.proofs.Sequences.{ProcessBehaves, pieces_left}
 use Rattle.meant_processes.proofs.Skips.{skips_leave, true_holds}
 
@@ -95,36 +93,13 @@ module _ (p : Program) (none : BreaksNoRule p.items) (conditions : ConditionsPus
       → IsPlaced p s env → shape start ≡ shape s.known.entries
       → begun_with blocks ≤ length (entered o start blocks).entries → IsTrueIn start env
       → IsPlaced p (in_turn (entered o start blocks) 0) (bind name (One v) env)
-  turn_placed o v start blocks is fits there same low holds =
-      let main = of_main_more (record { ports = p.ports; listens = [] })
-      (record { name = name; meaning = Constant value_type.Int o }) (shape start) tt
-      (of_main_alike (record { ports = p.ports; listens = [] }) start s.known.entries same
-      (record { own = there.own; ports = there.channels })) in
-      record {
-        counted = there.counted;
-        own = main.own;
-        channels = main.ports;
-        links = λ n port at.
-            let got = there.links n port at in
-            get_before s.frame.homes Nowhere n (got_below s.frame.homes n _ got) ∙ got;
-        housed = housed_more s.frame.homes Nowhere (record { name = name; meaning = Constant value_type.Int o })
-            (shape start)
-            (there.long ∙ sym (long_alike start s.known.entries same) ∙ sym (shape_long start)) tt
-            (subst (AreHoused s.frame.homes) (sym same) there.housed);
-        linked = (tt, subst (AreLinked p) (sym same) there.linked);
-        declared =
-            let inner = there.declared in
-            let long = long_alike start s.known.entries same in
-            omega (arith, inner, long);
-        alone =
-            let outer = there.alone in
-            let long = long_alike start s.known.entries same in
-            omega (arith, outer, long);
-        low = low;
-        long = home_behind s.frame.homes Nowhere
-            ∙ ap suc (there.long ∙ sym (long_alike start s.known.entries same));
-        holds = turn_true o v start is fits holds;
-      }
+  turn_placed o v start blocks is fits there same low holds = record {
+    sited = sited_more p s (in_turn (entered o start blocks) 0) Nowhere
+        (record { name = name; meaning = Constant value_type.Int o }) start there.sited there.long refl refl same tt tt
+        tt low;
+    long = home_behind s.frame.homes Nowhere ∙ ap suc (there.long ∙ sym (long_alike start s.known.entries same));
+    holds = turn_true o v start is fits holds;
+  }
 
   -- memory in a turn, and behind it
   turn_carried : (o : Option ℤ) (v : ℤ) (start : List Entry) (blocks : List moves.Block) (m : Memory) → IsPlaced p s env

@@ -1,5 +1,5 @@
 -- Declarations, actions, and processes one after the other.
-use Rattle.std.proofs.Common.{◌≡◌, ℕ, ℤ, true, List, [], length, Option, Some}
+use Rattle.std.proofs.Common.{◌≡◌, ℕ, ◌≤◌, ℤ, true, List, [], length, Option, Some}
 use Rattle.std.proofs.Common.{None, inl, inr, refl, sym, ap, subst, ◌∙◌, arith}
 use Rattle.std.proofs.lemmas.Bool.{and_parts}
 use Rattle.machine_state.specs.Memory.{Memory}
@@ -12,8 +12,9 @@ use Rattle.occam_parser.specs.Words.{components_have_words, construct_has_words,
 use Rattle.occam_parser.specs.Words.{process_has_words}
 use Rattle.scalar_ranges.specs.Environments.{Environment}
 use Rattle.scalar_ranges.specs.MoveLaws.{shape}
-use Rattle.scalar_ranges.specs.Moves.{Known, outermost}
+use Rattle.scalar_ranges.specs.Moves.{Known, begun_with, outermost}
 use Rattle.scalar_ranges.proofs.MoveLaws.{as_long, shape_long}
+use Rattle.program_uses.specs.Actions.{Around}
 use Rattle.program_uses.specs.Changes.{changed_by, changed_by_components}
 use Rattle.program_meaning.specs.Doing.{Doing, Leaves, doing, doing_component, doing_components}
 use Rattle.program_meaning.specs.Doing.{doing_construct, doing_then, leaves, or_fails}
@@ -24,7 +25,7 @@ use Rattle.program_meaning.proofs.MovesWithin.{within_shape}
 use Rattle.usage_checks.specs.AfterProcesses.{after_components, inside}
 use Rattle.usage_checks.specs.ItemRules.{BreaksNoRule}
 use Rattle.usage_checks.specs.Outlines.{IsMadeOf}
-use Rattle.usage_checks.specs.Reaching.{AComponent, AProcess, Piece, Reaches, StandsAmong, behind, process_of, to_process}
+use Rattle.usage_checks.specs.Reaching.{AComponent, AProcess, Piece, Reaches, StandsAmong, behind, to_process}
 use Rattle.usage_checks.proofs.PlacesHold.{places_hold}
 use Rattle.usage_checks.proofs.RangesStay.{components_stay, covers_itself, declared_behind, left_is, ranges_stay}
 use Rattle.usage_checks.proofs.RangesStay.{remains_low}
@@ -44,6 +45,7 @@ use Rattle.meant_lines.specs.Carrying.{Carries}
 use Rattle.meant_processes.specs.Lying.{LieApart, PiecesBehave}
 use Rattle.meant_processes.specs.Places.{AllFit, CarriedAt, FitsIn, IsPlaced, Program, ground, standing, surroundings}
 use Rattle.meant_processes.specs.Premises.{DeclarationOpens, LinesBehave}
+use Rattle.meant_processes.proofs.EachProcess.{OfEach}
 use Rattle.meant_processes.proofs.Behaving.{no_pieces, pieces_as, pieces_both, pieces_well}
 use Rattle.meant_processes.proofs.Carried.{scope_left}
 use Rattle.meant_processes.proofs.CodeParts.{before_is, then_is, written_is}
@@ -70,8 +72,19 @@ pub record ConstructBehaves (p : Program) (construct : Construct) : Type 0 where
       (doing_construct p.ports construct env)
 
 abbrev pub EachBehaves : {part : Part} → Program → Components part → Type 0
-EachBehaves p NoComponent = Unit {0}
-EachBehaves p (Further cs c) = EachBehaves p cs × ProcessBehaves p (process_of c)
+EachBehaves p cs = OfEach (ProcessBehaves p) cs
+
+-- Behind components of a SEQ the same names are known, and each block that is open begins before them.
+pub components_remain : {part : Part} (a : Around) (cs : Components part) (k : Known) → IsMadeOf (Mark mark.Seq) part
+    → begun_with k.blocks ≤ length k.entries
+    → (begun_with (after_components a (Mark mark.Seq) cs k).blocks
+    ≤ length (after_components a (Mark mark.Seq) cs k).entries)
+    × (shape (after_components a (Mark mark.Seq) cs k).entries ≡ shape k.entries)
+components_remain a cs k made low =
+    let m = after_components a (Mark mark.Seq) cs k in
+    let ns = changed_by_components a.signatures k.entries cs in
+    let remains = components_stay a ns (Mark mark.Seq) cs k made (covers_itself ns) low in
+    (remains_low ns k m remains low, within_shape ns m.entries k.entries remains.within)
 
 -- scopes are left behind pieces
 pub pieces_left : (c : LaidCode) {Before : Memory → Type 0} {Inner After : Environment → Memory → Type 0}
@@ -191,15 +204,12 @@ module _ (p : Program) (none : BreaksNoRule p.items) where
       let w = surroundings p in
       let m = after_components a (Mark mark.Seq) cs s.known in
       let both = and_parts (components_have_words cs) (process_has_words q) words in
-      let ns = changed_by_components a.signatures s.known.entries cs in
-      let remains = components_stay a ns (Mark mark.Seq) cs s.known made (covers_itself ns) placed.low in
-      let low = remains_low ns s.known m remains placed.low in
-      let same = within_shape ns m.entries s.known.entries remains.within in
+      let remain = components_remain a cs s.known made placed.sited.low in
       let here = to_process (standing p) (Plain q) m (reach (AComponent (Plain q)) m (inl (refl, refl))) in
       let t = then_is (components_code w cs s) (λ label. component_code w (Plain q) (at_place m label s)) c is in
       let fits = subst (AllFit p) t.pieces fit in
       let sm = at_place m t.first.labels s in
-      let stays = ranges_stay.processes a q m low in
+      let stays = ranges_stay.processes a q m remain.0 in
       subst (λ ps. PiecesBehave p.code (CarriedAt p s turns env) ps (Followed (Further cs (Plain q)) s turns env)
       (doing_then (doing_components p.ports cs env) (doing_component p.ports (Plain q)))) (sym t.pieces)
       (pieces_both p.code (doing_component p.ports (Plain q))
@@ -207,13 +217,13 @@ module _ (p : Program) (none : BreaksNoRule p.items) where
       sequential.0 both.0 placed t.first_is (all_first (FitsIn p) t.first.pieces t.last.pieces fits))
       (λ e. record {
         behaves = λ at_row at to h lie inside_code begins.
-            let there = placed_alike p s m t.first.labels env e placed same low begins.1 in
-            (pieces_as p.code (λ x carries. carried_alike p s m t.first.labels turns e x same carries)
+            let there = placed_alike p s m t.first.labels env e placed remain.1 remain.0 begins.1 in
+            (pieces_as p.code (λ x carries. carried_alike p s m t.first.labels turns e x remain.1 carries)
             (λ after x left.
-            let back = left_alike p s m t.first.labels turns e after x same left.0 in (
+            let back = left_alike p s m t.first.labels turns e after x remain.1 left.0 in (
               (back.0, indices_then (shape s.known.entries) env e after begins.0.1 back.1),
               subst (λ es. IsTrueIn es after)
-                  (sym (left_is (changed_by a.signatures m.entries q) m (inside a q m) stays low)) left.1,
+                  (sym (left_is (changed_by a.signatures m.entries q) m (inside a q m) stays remain.0)) left.1,
             ))
             (pieces_well p.code (IsTrueIn (outermost (length m.entries) (inside a q m).entries))
             (each.1.behaves (length m.entries) sm turns e t.last here sequential.1 both.1 there t.last_is

@@ -104,10 +104,9 @@ abbrev pub AreLinked : Program → List Entry → Type 0
 AreLinked p [] = Unit {0}
 AreLinked p (e ∷ es) = IsLinked p (length es) e.name e.meaning × AreLinked p es
 
--- At a site what is known is true, names have the homes of their kinds, the ports are channels whose homes are their
--- links, and no other channel may be used. What is declared from here on is declared in the process, and no PAR is
--- around it.
-pub record IsPlaced (p : Program) (s : Site) (env : Environment) : Type 0 where
+-- At a site names have the homes of their kinds, the ports are channels whose homes are their links, and no other
+-- channel may be used. What is declared from here on is declared in the process, and no PAR is around it.
+pub record IsSited (p : Program) (s : Site) : Type 0 where
   pub counted : p.around.uncounted ≡ None
   pub own : AllByRecursion (λ e. IsOwn e.meaning) (shape s.known.entries)
   pub channels : (n : ℕ) (port : Port) → item_at n p.ports ≡ Some (Some port)
@@ -119,6 +118,10 @@ pub record IsPlaced (p : Program) (s : Site) (env : Environment) : Type 0 where
   pub declared : p.position.declared ≤ length s.known.entries
   pub alone : p.position.parallel ≤ length s.known.entries
   pub low : begun_with s.known.blocks ≤ length s.known.entries
+
+-- What is known there is true, and each name has one home.
+pub record IsPlaced (p : Program) (s : Site) (env : Environment) : Type 0 where
+  pub sited : IsSited p s
   pub long : length s.frame.homes ≡ length s.known.entries
   pub holds : IsTrueIn s.known.entries env
 

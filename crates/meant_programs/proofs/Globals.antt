@@ -1,12 +1,12 @@
 -- What is known before main, item by item.
-use Rattle.std.proofs.Common.{◌≡◌, ℕ, zero, suc, Bool, true, false, cond, List, [], ◌∷◌, ◌++◌}
+use Rattle.std.proofs.Common.{◌≡◌, ℕ, zero, suc, true, false, cond, List, [], ◌∷◌, ◌++◌}
 use Rattle.std.proofs.Common.{length, map, Option, Some, None, inl, inr, refl, sym, ap, subst, arith, ◌∙◌, ◌⊎◌, max}
 use Rattle.std.proofs.Common.{append_assoc, IsSomeAnd}
 use Rattle.std.proofs.lemmas.Bool.Decides.{nat_tests}
 use Rattle.std.proofs.lemmas.List.{length-append, append-nil}
 use Rattle.std.specs.List.{AllByRecursion, slice_get}
 use Rattle.std.specs.Prelude.{nat_eq, option_map}
-use Rattle.std.proofs.lemmas.Bool.{and_parts, true_from_ne_false}
+use Rattle.std.proofs.lemmas.Bool.{and_parts, cond_both, true_from_ne_false}
 use Rattle.word_arithmetic.specs.Range.{Ends, full}
 use Rattle.occam_parser.specs.declared.tree.ValueType.{ValueType}
 use Rattle.occam_parser.specs.declared.tree.FormalKind.{FormalKind}
@@ -108,12 +108,9 @@ pub table_global : (type : ValueType) (size : Option ℕ) (count : ℕ) (range :
     → IsGlobal (table_of type size count range)
 table_global type None count range = tt
 table_global type (Some n) count None = tt
-table_global type (Some n) count (Some range) = by_count (nat_eq n count)
-  where
-    by_count : (t : Bool) → IsGlobal
-        (cond t (Array array.Table type (Some n) range) (Array array.Table type None (type_range type)))
-    by_count true = tt
-    by_count false = tt
+table_global type (Some n) count (Some range) =
+    cond_both (nat_eq n count) (Array array.Table type (Some n) range) (Array array.Table type None (type_range type))
+    IsGlobal (λ t. tt) (λ t. tt)
 
 pub constant_global : (es : List Entry) (type : ValueType) (value : Value) → IsGlobal (constant_meaning es type value)
 constant_global es type (lines.Scalar e) = tt

@@ -113,17 +113,11 @@ module _ (footing : Footing) (words : ℕ) (whole : List Piece) (m : Memory)
         (code : Code) → FoundFrom (item ∷ rest) none Holds on item rest [] code
         → FoundMain (item ∷ rest) footing words whole m code
     main_found item rest none code found =
-        let known = found.outside.known in
-        let c = carried found.frame known.entries found.names found.holds in
+        let known = found.main.outside.known in
+        let c = carried found.main.frame known.entries found.main.names found.holds in
         record {
-          outside = found.outside;
-          procedure = found.procedure;
-          callees = found.callees;
-          frame = found.frame;
-          names = found.names;
-          comes = found.comes;
+          main = found.main;
           runs = found.runs;
-          is = found.is;
           holds = found.truth.holds;
           own = subst (λ (T : Type 0). T) (all_own (shape known.entries)) (globals_own known.entries found.truth.global);
           fixed = all_fixed known.entries found.truth.global;
@@ -132,10 +126,6 @@ module _ (footing : Footing) (words : ℕ) (whole : List Piece) (m : Memory)
           long = c.long;
           top = c.top;
           carries = c.carries;
-          named = found.named;
-          links = found.links;
-          sequential = found.sequential;
-          has_words = found.has_words;
         }
 
 pub main_is_found : MainIsFound

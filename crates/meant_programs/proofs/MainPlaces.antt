@@ -293,72 +293,75 @@ item_mapped (g ∷ fs) (suc n) f is = item_mapped fs n f is
 module _ (items : List ProgramItem) (c : LaidCode) (words : ℕ) (whole : List Piece) (m : Memory) (code : Code)
     (found : FoundMain items c.footing words whole m code) where
   abbrev formals : List Formal
-  formals = found.procedure.head.formals
+  formals = found.main.procedure.head.formals
 
   -- the program whose main is found
   abbrev pub main_program : Program
   main_program = record {
     items = items;
-    around = around_in found.outside;
-    position = (in_procedure found.outside found.procedure).position;
-    calls = (where_called found.callees (around_in found.outside) (length found.callees)).calls;
+    around = around_in found.main.outside;
+    position = (in_procedure found.main.outside found.main.procedure).position;
+    calls = (where_called found.main.callees (around_in found.main.outside) (length found.main.callees)).calls;
     code = c;
     words = words;
     pieces = whole;
-    ports = no_ports found.names ++ map port_for formals;
+    ports = no_ports found.main.names ++ map port_for formals;
   }
 
   abbrev pub main_site : Site
-  main_site = in_main found.procedure (before_main found.outside found.frame)
+  main_site = in_main found.main.procedure (before_main found.main.outside found.main.frame)
 
   abbrev pub main_names : Environment
-  main_names = bind_formals formals found.names
+  main_names = bind_formals formals found.main.names
 
-  linked : Linked (no_ports found.names ++ map port_for formals) (shape main_site.known.entries)
+  linked : Linked (no_ports found.main.names ++ map port_for formals) (shape main_site.known.entries)
   linked =
-      let es = found.outside.known.entries in
-      formals_linked es formals es (no_ports found.names) found.links (record {
-        long = no_ports_long found.names ∙ as_long found.names es found.holds.meets ∙ sym (shape_long es);
+      let es = found.main.outside.known.entries in
+      formals_linked es formals es (no_ports found.main.names) found.main.links (record {
+        long = no_ports_long found.main.names ∙ as_long found.main.names es found.holds.meets ∙ sym (shape_long es);
         own = subst (λ (T : Type 0). T) (sym (all_own (shape es))) found.own;
-        ports = λ n q at. absurd (no_port n found.names q at);
+        ports = λ n q at. absurd (no_port n found.main.names q at);
       })
 
   pub main_placed : IsPlaced main_program main_site main_names
   main_placed =
-      let es = found.outside.known.entries in
+      let es = found.main.outside.known.entries in
       let begun = ap begun_with found.blocks in
-      let named = as_long found.names es found.holds.meets in
+      let named = as_long found.main.names es found.holds.meets in
       let homes = found.long in
       let ports = linked.long in
       let shaped = shape_long main_site.known.entries in
-      let none = no_ports_long found.names in
-      let some = length-append (no_ports found.names) (map port_for formals) in
-      let all = length-append found.frame.homes (link_homes formals) in
+      let none = no_ports_long found.main.names in
+      let some = length-append (no_ports found.main.names) (map port_for formals) in
+      let all = length-append found.main.frame.homes (link_homes formals) in
       let first = length-map formals port_for in
       let second = length-map formals (λ x. home_of_port (port_for x)) in
       record {
-        counted = found.counted;
-        own = subst (λ (T : Type 0). T) (all_own (shape main_site.known.entries)) linked.own;
-        channels = linked.ports;
-        links = λ n port at. links_housed found.frame.homes found.names formals n port (omega (arith, named, homes)) at;
-        housed = formals_are_housed main_site.frame.homes es formals es found.links
-            (all_housed main_site.frame.homes es found.fixed);
-        linked = formals_are_linked main_program es formals es found.links found.named (omega arith)
-            (omega (arith, named, homes, ports, shaped, none, some, first))
-            (λ n f at. subst (λ k. item_at (k + n) main_program.ports ≡ Some (port_for f))
-            (let same : length (no_ports found.names) ≡ length es = omega (arith, none, named) in same)
-            (item_behind (no_ports found.names) (map port_for formals) n ∙ item_mapped formals n f at))
-            (all_linked main_program es found.fixed);
-        declared = omega arith;
-        alone = omega arith;
-        low = omega (arith, begun);
+        sited = record {
+          counted = found.counted;
+          own = subst (λ (T : Type 0). T) (all_own (shape main_site.known.entries)) linked.own;
+          channels = linked.ports;
+          links = λ n port at.
+              links_housed found.main.frame.homes found.main.names formals n port (omega (arith, named, homes)) at;
+          housed = formals_are_housed main_site.frame.homes es formals es found.main.links
+              (all_housed main_site.frame.homes es found.fixed);
+          linked = formals_are_linked main_program es formals es found.main.links found.main.named (omega arith)
+              (omega (arith, named, homes, ports, shaped, none, some, first))
+              (λ n f at. subst (λ k. item_at (k + n) main_program.ports ≡ Some (port_for f))
+              (let same : length (no_ports found.main.names) ≡ length es = omega (arith, none, named) in same)
+              (item_behind (no_ports found.main.names) (map port_for formals) n ∙ item_mapped formals n f at))
+              (all_linked main_program es found.fixed);
+          declared = omega arith;
+          alone = omega arith;
+          low = omega (arith, begun);
+        };
         long = omega (arith, named, homes, ports, shaped, none, some, all, first, second);
-        holds = formals_true es formals es found.names found.links found.holds;
+        holds = formals_true es formals es found.main.names found.main.links found.holds;
       }
 
   pub main_carried : Carries (grounded c.footing words whole main_site.frame.homes) main_site.frame.top
       main_site.known.entries main_names m
   main_carried =
-      let es = found.outside.known.entries in
-      formals_carried (grounded c.footing words whole found.frame.homes) found.frame.top es formals es found.names m
-      found.links found.holds found.long found.carries
+      let es = found.main.outside.known.entries in
+      formals_carried (grounded c.footing words whole found.main.frame.homes) found.main.frame.top es formals es
+      found.main.names m found.main.links found.holds found.long found.carries

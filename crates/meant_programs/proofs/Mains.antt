@@ -1,7 +1,6 @@
 -- Main's code does what main does, and where that leaves names, the module finishes next.
-use Rattle.std.proofs.Common.{◌≡◌, ℕ, ◌<◌, ℤ, pos, Bool, true, false, cond, List, [], ◌∷◌, ◌++◌, length, Some}
+use Rattle.std.proofs.Common.{◌≡◌, ℕ, ◌<◌, ℤ, pos, true, List, [], ◌∷◌, length, Some}
 use Rattle.std.proofs.Common.{inl, inr, refl, sym, subst, ap, ◌∙◌}
-use Rattle.std.specs.Prelude.{◌&&◌}
 use Rattle.std.specs.List.{AllByRecursion}
 use Rattle.std.proofs.lemmas.Bool.{cases_lt}
 use Rattle.std.proofs.lemmas.List.{append-nil}
@@ -17,8 +16,8 @@ use Rattle.usage_checks.specs.ItemRules.{BreaksNoRule, in_body}
 use Rattle.usage_checks.specs.Reaching.{to_body}
 use Rattle.code_pieces.specs.declared.operations.TheConstants.{STOP_PROCESS}
 use Rattle.code_pieces.specs.Pars.{in_root}
-use Rattle.code_pieces.specs.Pieces.{Code, Piece, constant, operates}
-use Rattle.code_pieces.specs.Laying.{apart, apart_from, at_row_behind, draft_code, is_row, tables_before}
+use Rattle.code_pieces.specs.Pieces.{Code, Piece, operates}
+use Rattle.code_pieces.specs.Laying.{apart, draft_code, tables_before}
 use Rattle.code_pieces.specs.Laying.{words_taken}
 use Rattle.code_pieces.specs.LaidModule.{Says, laid_module}
 use Rattle.code_pieces.proofs.AllOfPieces.{all_first}
@@ -33,6 +32,7 @@ use Rattle.placed_code.specs.StraightPieces.{Held}
 use Rattle.placed_code.proofs.Finishing.{length-spelled}
 use Rattle.placed_code.proofs.PiecesLie.{length-items, pieces_lie}
 use Rattle.meant_lines.proofs.PartsStand.{code_stores_within, parts_stand}
+use Rattle.meant_code.proofs.RowsApart.{unfilled}
 use Rattle.meant_code.specs.OwnCode.{OperandFits}
 use Rattle.meant_code.proofs.AmongOthers.{parts_stay_parts}
 use Rattle.meant_code.proofs.OwnPrograms.{labels_stay_once}
@@ -77,20 +77,6 @@ stop_before : (c : LaidCode) (at to : ℕ) → Lie c at (operates STOP_PROCESS �
     → at < length c.code
 stop_before c at to (laid.more {middle = middle} stop laid.none) ends =
     fetched_before c.code at to fun.Operate STOP_PROCESS stop ends
-
--- ---- rows that were kept apart
-
-filled_all : (P : Piece → Type 0) (b : Bool) (p : Piece) (rest : List Piece)
-    → AllByRecursion P (cond b (constant (pos 0) ∷ p ∷ []) (p ∷ []) ++ rest) → P p × AllByRecursion P rest
-filled_all P true p rest all = all.1
-filled_all P false p rest all = all
-
-unfilled : (P : Piece → Type 0) (at_row : Bool) (ps : List Piece) → AllByRecursion P (apart_from at_row ps)
-    → AllByRecursion P ps
-unfilled P at_row [] all = tt
-unfilled P at_row (p ∷ ps) all =
-    let both = filled_all P (at_row && is_row p) p (apart_from (at_row_behind p at_row) ps) all in
-    (both.0, unfilled P (at_row_behind p at_row) ps both.1)
 
 -- ---- main
 
@@ -143,18 +129,19 @@ module _ (items : List ProgramItem) (code : Code) (links bytes : List ℕ) (none
 
     pub main_behaves : MainBehaves c (first_point (laid_module ps code.labels links says.arrangement)) items
     main_behaves =
-        let o = found.outside in
-        let main = found.procedure in
+        let o = found.main.outside in
+        let main = found.main.procedure in
         let stops : List Piece = operates STOP_PROCESS ∷ [] in
-        let closed = closed_is stops (process_code (surroundings p) main.body site) code found.is in
+        let closed = closed_is stops (process_code (surroundings p) main.body site) code found.main.is in
         let lie = subst (λ qs. LieApart c true 0 qs end) closed.pieces pieces_apart in
         let both = apart_both c true 0 end closed.first.pieces stops lie in
         let stop = straight_lie c both.after_row both.middle end stops (tt, tt) both.second in
         let inside = stop_before c both.middle end stop code_ends in
         let fits = all_first (FitsIn p) closed.first.pieces stops (subst (AllFit p) closed.pieces all_fit) in
-        let means = processes_behave p main.body none found.sequential found.has_words refl
+        let means = processes_behave p main.body none found.main.sequential found.main.has_words refl
         (length (in_body main o.known).entries) site (λ w. pos 0) names closed.first
-        (to_body o main found.comes) (main_placed items c (words_taken ps) ps h.memory code found) closed.is fits in
+        (to_body o main found.main.comes) (main_placed items c (words_taken ps) ps h.memory code found) closed.is
+        fits in
         record {
           main = record { ports = p.ports; body = main.body; names = names; runs = found.runs };
           behaves = goes_on_behind c (means.behaves true 0 both.middle h both.first inside carried_there)

@@ -18,7 +18,7 @@ use Rattle.program_meaning.specs.Links.{Links}
 use Rattle.program_meaning.specs.Meaning.{in_main, declare_item, run_items}
 use Rattle.program_meaning.specs.Running.{or_stuck}
 use Rattle.program_meaning.specs.Storing.{bind, declare}
-use Rattle.program_meaning.specs.Sequential.{IsSequential, IsSequentialProgram}
+use Rattle.program_meaning.specs.Sequential.{IsSequentialProgram}
 use Rattle.usage_checks.specs.BrokenInTurn.{BreaksInTurn}
 use Rattle.usage_checks.specs.Holding.{DeclarationHolds}
 use Rattle.usage_checks.specs.ItemRules.{Outside, outermost, around_in, after_weighing, weighed, after_item, BreaksItem}
@@ -30,9 +30,9 @@ use Rattle.usage_checks.proofs.PlacesHold.{Unbroken, items_hold}
 use Rattle.code_pieces.specs.Pieces.{Code}
 use Rattle.line_pieces.specs.Homes.{Nowhere}
 use Rattle.line_pieces.specs.Declarations.{Frame, declared, with_home}
-use Rattle.code_generator.specs.Calls.{Callee, where_called}
-use Rattle.code_generator.specs.Programs.{framed, callable, code_of, items_code, main_code, no_frame}
-use Rattle.meant_programs.specs.Mains.{before_main}
+use Rattle.code_generator.specs.Calls.{Callee}
+use Rattle.code_generator.specs.Programs.{framed, callable, code_of, items_code, no_frame}
+use Rattle.meant_programs.specs.Mains.{FoundProcedure}
 use Rattle.meant_programs.proofs.Globals.{Before, weighed_before, item_after, procedure_leaves, last_of}
 use Rattle.meant_programs.proofs.Globals.{last_is_main}
 
@@ -92,23 +92,12 @@ module _ (items : List ProgramItem) (none : BreaksNoRule items) (Holds : Frame �
 
   -- main, found from here on
   pub record FoundFrom (item : ProgramItem) (rest : List ProgramItem) (env : Environment) (code : Code) : Type 0 where
-    pub outside : Outside
-    pub procedure : Procedure
-    pub callees : List Callee
-    pub frame : Frame
-    pub names : Environment
-    pub last : last_of item rest ≡ GlobalProcedure procedure
-    pub comes : Comes outside (GlobalProcedure procedure) items outermost
+    pub main : FoundProcedure items code
+    pub last : last_of item rest ≡ GlobalProcedure main.procedure
     pub runs : (listens : List Bool) (l : Links)
-        → run_items listens item rest env l ≡ in_main listens procedure names l
-    pub is : main_code (where_called callees (around_in outside) (length callees)) procedure
-        (before_main outside frame) ≡ Some code
-    pub truth : Before outside names
-    pub holds : Holds frame outside.known.entries names
-    pub named : is_main_name procedure.head.name ≡ true
-    pub links : are_links procedure.head.formals ≡ true
-    pub sequential : IsSequential procedure.body
-    pub has_words : process_has_words procedure.body ≡ true
+        → run_items listens item rest env l ≡ in_main listens main.procedure main.names l
+    pub truth : Before main.outside main.names
+    pub holds : Holds main.frame main.outside.known.entries main.names
 
   last_found_here : (before : Outside) (p : Procedure) (env : Environment) (cs : List Callee) (f : Frame) (code : Code)
       → Stands before (GlobalProcedure p) [] f env → items_code (GlobalProcedure p) [] cs before f ≡ Some code
@@ -118,22 +107,24 @@ module _ (items : List ProgramItem) (none : BreaksNoRule items) (Holds : Frame �
       let o = weighed item before in
       let named = and_parts (is_main_name p.head.name) (are_links p.head.formals) stands.main in
       record {
-        outside = o;
-        procedure = p;
-        callees = cs;
-        frame = f;
-        names = env;
+        main = record {
+          outside = o;
+          procedure = p;
+          callees = cs;
+          frame = f;
+          names = env;
+          comes = stands.comes o item (inl (refl, refl));
+          is = is;
+          named = named.0;
+          links = named.1;
+          sequential = stands.sequential;
+          has_words = (and_parts (list_all formal_has_words p.head.formals) (process_has_words p.body)
+              (and_parts (item_has_words item) (list_all item_has_words []) stands.has_words).0).1;
+        };
         last = refl;
-        comes = stands.comes o item (inl (refl, refl));
         runs = λ listens l. refl;
-        is = is;
         truth = weighed_before item before env (λ x y. stands.unbroken x (inl (inl y))) stands.truth;
         holds = subst (λ (k : Known). Holds f k.entries env) (sym (weighed_knows item before)) stands.holds;
-        named = named.0;
-        links = named.1;
-        sequential = stands.sequential;
-        has_words = (and_parts (list_all formal_has_words p.head.formals) (process_has_words p.body)
-            (and_parts (item_has_words item) (list_all item_has_words []) stands.has_words).0).1;
       }
 
   -- what holds after an item
@@ -180,21 +171,11 @@ module _ (items : List ProgramItem) (none : BreaksNoRule items) (Holds : Frame �
       → IsSomeAnd o (λ inner. FoundFrom next rest inner code) → FoundFrom item (next ∷ rest) env code
   found_next item next rest env code None is found = absurd found
   found_next item next rest env code (Some inner) is found = record {
-    outside = found.outside;
-    procedure = found.procedure;
-    callees = found.callees;
-    frame = found.frame;
-    names = found.names;
+    main = found.main;
     last = found.last;
-    comes = found.comes;
     runs = λ listens l. ap (λ x. or_stuck x (λ i. run_items listens next rest i l)) is ∙ found.runs listens l;
-    is = found.is;
     truth = found.truth;
     holds = found.holds;
-    named = found.named;
-    links = found.links;
-    sequential = found.sequential;
-    has_words = found.has_words;
   }
 
   find : (before : Outside) (item : ProgramItem) (rest : List ProgramItem) (env : Environment) (cs : List Callee)

@@ -42,30 +42,36 @@ IsFixed (Array array.Table type size range) = Unit {0}
 IsFixed (entries.Procedure number) = Unit {0}
 IsFixed m = ⊥
 
--- Main of a program with this code, where memory carries the names before it.
-pub record FoundMain (items : List ProgramItem) (footing : Footing) (words : ℕ) (whole : List Piece) (m : Memory)
-    (code : Code) : Type 0 where
+-- Main of a program with this code: its procedure, what is known before it, and the names there.
+pub record FoundProcedure (items : List ProgramItem) (code : Code) : Type 0 where
   pub outside : Outside
   pub procedure : Procedure
   pub callees : List Callee
   pub frame : Frame
   pub names : Environment
   pub comes : Comes outside (GlobalProcedure procedure) items outermost
-  pub runs : (listens : List Bool) (l : Links) → run_program items listens l ≡ in_main listens procedure names l
   pub is : main_code (where_called callees (around_in outside) (length callees)) procedure
       (before_main outside frame) ≡ Some code
-  pub holds : IsTrueIn outside.known.entries names
-  pub own : AllByRecursion (λ e. IsOwn e.meaning) (shape outside.known.entries)
-  pub fixed : AllByRecursion (λ e. IsFixed e.meaning) outside.known.entries
-  pub blocks : outside.known.blocks ≡ []
-  pub counted : outside.uncounted ≡ None
-  pub long : length frame.homes ≡ length outside.known.entries
-  pub top : frame.top ≡ first_word
-  pub carries : Carries (grounded footing words whole frame.homes) frame.top outside.known.entries names m
   pub named : is_main_name procedure.head.name ≡ true
   pub links : are_links procedure.head.formals ≡ true
   pub sequential : IsSequential procedure.body
   pub has_words : process_has_words procedure.body ≡ true
+
+-- The program runs as main does, where memory carries the names before it.
+pub record FoundMain (items : List ProgramItem) (footing : Footing) (words : ℕ) (whole : List Piece) (m : Memory)
+    (code : Code) : Type 0 where
+  pub main : FoundProcedure items code
+  pub runs : (listens : List Bool) (l : Links)
+      → run_program items listens l ≡ in_main listens main.procedure main.names l
+  pub holds : IsTrueIn main.outside.known.entries main.names
+  pub own : AllByRecursion (λ e. IsOwn e.meaning) (shape main.outside.known.entries)
+  pub fixed : AllByRecursion (λ e. IsFixed e.meaning) main.outside.known.entries
+  pub blocks : main.outside.known.blocks ≡ []
+  pub counted : main.outside.uncounted ≡ None
+  pub long : length main.frame.homes ≡ length main.outside.known.entries
+  pub top : main.frame.top ≡ first_word
+  pub carries : Carries (grounded footing words whole main.frame.homes) main.frame.top main.outside.known.entries
+      main.names m
 
 -- Main of a sequential program that breaks no rule is found, where memory carries that there are no names.
 abbrev pub MainIsFound : Type 0

@@ -1,4 +1,9 @@
 pub mod StraightPieces
+pub mod OperandsName
+pub mod WordsTurned
+pub mod FrontsCover
+pub mod OperandsKeep
+pub mod ChainsOperate
 pub mod ItemsFetched
 pub mod Distances
 pub mod PiecesLie

@@ -1,4 +1,5 @@
 pub mod StraightPieces
+pub mod OperandsName
 pub mod Instructions
 pub mod LaidCode
 pub mod Points

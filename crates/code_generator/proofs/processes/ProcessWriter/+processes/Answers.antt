@@ -1,6 +1,5 @@
-use Rattle.std.proofs.Common.{◌≡◌, ◌+◌, ◌≤◌, length, map, IfOk, arith, refl, ap, sym, subst, ◌∙◌, rules, Some, Err}
-use Rattle.std.proofs.Common.{true, false, option_map, w32, of_z}
-use Rattle.std.proofs.lemmas.Int.{to_z-of_z}
+use Rattle.std.proofs.Common.{◌≡◌, ◌≤◌, length, map, IfOk, arith, refl, ap, sym, subst, ◌∙◌, rules, Some, Err}
+use Rattle.std.proofs.Common.{false, option_map, w32, of_z}
 use Rattle.occam_layout.specs.declared.mark.Mark.TheVariants as mark
 use Rattle.module_builder.specs.declared.fault.GenFault.TheVariants.{Limit, Invalid}
 use Rattle.occam_parser.specs.declared.tree.Body.{the_lemmas}
@@ -9,10 +8,12 @@ use Rattle.occam_parser.specs.Views.{expression_of}
 use Rattle.occam_parser.specs.LineViews.{action_of, declaration_of, replicator_of, guard_of}
 use Rattle.occam_parser.specs.Lines.{Instance}
 use Rattle.occam_parser.specs.Blocks.{Does, Guarded, Replicated}
+use Rattle.occam_parser.specs.Constructs.{in_seq, in_if}
 use Rattle.occam_parser.specs.BlockReading.{with_declarations}
 use Rattle.occam_parser.specs.BlockViews.{process_of, construct_of, choice_of, plain_component, all_processes}
 use Rattle.occam_parser.specs.BlockViews.{all_choices, all_branches, branch_of, body_of}
-use Rattle.occam_parser.proofs.SeenBlocks.{view-Alt, view-Body-Par, view-Body-Seq, view-If, view-Par, view-Replicated, view-Seq}
+use Rattle.occam_parser.proofs.SeenBlocks.{view-Alt, view-Body-Par, view-Body-Seq, view-If, view-Par, view-Seq}
+use Rattle.occam_parser.proofs.SeenBlocks.{view-Replicated}
 use Rattle.occam_parser.proofs.SeenBlocks.{view-Body-If, view-Body-Alt, view-Action}
 use Rattle.scalar_ranges.specs.Moves.{begin, begin_par}
 use Rattle.scalar_ranges.specs.Scopes.{known_of, meaning_of}
@@ -33,12 +34,12 @@ use Rattle.line_pieces.specs.FrameViews.{frame_seen}
 use Rattle.line_pieces.specs.Homes.{Nowhere}
 use Rattle.line_pieces.specs.Declarations.{with_home}
 use Rattle.code_generator.specs.Branches.{WritesPar}
-use Rattle.code_generator.specs.Processes.{Site, Surroundings, at_place, taken_code, tested_code, open_code}
-use Rattle.code_generator.specs.Processes.{process_code, line_code, construct_code, components_code}
-use Rattle.code_generator.specs.Written.{site_of, Writes, WritesConstruct, WritesSeq, WritesLine, EntersLoop, IsTooMuch}
-use Rattle.code_generator.specs.Written.{choices_in}
-use Rattle.code_generator.specs.Written.{Exceeds, entering_code, choice_as, WritesAs, if_at, WritesIf, before_turns}
-use Rattle.code_generator.specs.Written.{ending_at, WritesEnding, WritesSomeTurns, turns_at, WritesTurns}
+use Rattle.code_generator.specs.Processes.{Site, Surroundings}
+use Rattle.code_generator.specs.Processes.{process_code, line_code, construct_code}
+use Rattle.code_generator.specs.Written.{site_of, Writes, WritesConstruct, WritesLine}
+use Rattle.code_generator.specs.Written.{choices_in, turning_code, WritesTurning}
+use Rattle.code_generator.specs.Written.{Exceeds}
+use Rattle.code_generator.specs.Written.{ending_at, WritesEnding}
 use Rattle.code_generator.proofs.ActsWritten.{writes_act, writes_from, writes_still, writes_instance, instance_leaves}
 use Rattle.code_generator.proofs.Exceeding.{exceeds_from, spent_place}
 use Rattle.code_generator.proofs.PartsExceed.{exceeds_declaring, exceeds_process, exceeds_seq}
@@ -54,57 +55,51 @@ use Rattle.code_generator.proofs.BranchesWritten.{writes_repeated_par}
 use Rattle.code_generator.proofs.PartsSequential.{construct_sequential, component_sequential, tested_sequential}
 use Rattle.code_generator.proofs.PartsSequential.{ending_sequential}
 use Rattle.code_generator.proofs.PartsWritten.{writes_none, writes_moved, writes_behind, seq_next, seq_done}
-use Rattle.code_generator.proofs.ChoicesWritten.{choice_seen, writes_if, writes_taken, writes_tested, writes_open}
+use Rattle.code_generator.proofs.ChoicesWritten.{choice_seen, placed_at, writes_if, writes_taken, writes_tested}
+use Rattle.code_generator.proofs.ChoicesWritten.{writes_open}
 use Rattle.code_generator.proofs.ChoicesWritten.{tested_next, tested_done, choices_written, writes_opens}
 use Rattle.code_generator.proofs.ChoicesWritten.{taken_left, choices_left}
-use Rattle.code_generator.proofs.LoopsWritten.{body_left, writes_turning, writes_loop, writes_replicated}
-use Rattle.code_generator.proofs.TurnsWritten.{turns_next, turns_stopped, turns_taken, turns_left, writes_repeated_if}
+use Rattle.code_generator.proofs.ConstructsSeen.{of_construct, of_parts}
+use Rattle.code_generator.proofs.LoopsWritten.{body_left, writes_turning, turning_with, as_passed, is_turning}
+use Rattle.code_generator.proofs.LoopsWritten.{writes_loop, writes_replicated}
+use Rattle.code_generator.proofs.TurnsWritten.{turns_next, turns_stopped, turns_taken, turns_begin, turns_left}
+use Rattle.code_generator.proofs.TurnsWritten.{writes_repeated_if}
 use Rattle.code_generator.proofs.processes.ProcessWriter.+processes.Goals as goal
 
 pub write-returns-clause-ok : goal.write-returns-clause-ok
 write-returns-clause-ok t c =
-    let here = surroundings_of c.args.around in
-    let p = process_of c.args.process.now in
-    let begun = c.in_ok-before.ensures in
-    writes_still c.in_ok-begin_line.ensures
-    (writes_from (process_code here p) (inside here.around p) begun.listing (spent_place begun)
-    c.in_ok-write_process.ensures.ok)
-
-pub write_process-returns-clause-ok : goal.write_process-returns-clause-ok
-write_process-returns-clause-ok t c =
     let p = c.args.process.now in
-    let s = c.args.self.now in
+    let whole = process_of p in
+    let here = surroundings_of c.args.around in
+    let begun = c.in_ok-before.ensures in
+    let s = c.begin_line.new.self in
     let final = record c.write_construct.new.self { frame = c.leave.new.self } in
     let view : with_declarations (map declaration_of p.declarations.items)
-    (Does p.line (construct_of p.construct.value)) ≡ process_of p = search (rules, the_lemmas) in
+    (Does p.line (construct_of p.construct.value)) ≡ whole = search (rules, the_lemmas) in
     let long : c.len-count.result ≡ length s.frame.homes.items = omega arith in
-    subst (λ (h : Surroundings). Writes s final (process_code h (process_of p) (site_of s))
-    (inside h.around (process_of p) (known_of s.scope))) c.in_ok-inside.ensures.same
+    writes_still c.in_ok-begin_line.ensures
+    (writes_from (process_code here whole) (inside here.around whole) begun.listing (spent_place begun)
+    (subst (λ (h : Surroundings). Writes s final (process_code h whole (site_of s))
+    (inside h.around whole (known_of s.scope))) c.in_ok-inside.ensures.same
     (writes_behind c.in_ok-inside.inside (map declaration_of c.deref.result.now) p.line
-    (construct_of c.deref-2.result.now) (process_of p) c.leave.new.self c.len-count.result
+    (construct_of c.deref-2.result.now) whole c.leave.new.self c.len-count.result
     ((λ i. with_declarations (map declaration_of (c.deref.ensures.value i))
     (Does p.line (construct_of (c.deref-2.ensures i)))) ∙ view) c.in_ok-declare_all.ensures.ok
-    c.in_ok-write_construct.ensures.ok long c.leave.ensures.homes c.leave.ensures.top c.leave.ensures.outer)
+    c.in_ok-write_construct.ensures.ok long c.leave.ensures.homes c.leave.ensures.top c.leave.ensures.outer)))
 
 pub write_construct-returns-in-Seq-clause-ok : goal.write_construct-returns-in-Seq-clause-ok
 write_construct-returns-in-Seq-clause-ok t c =
-    let v = c.in-Seq.processes in
-    let s = c.args.self.now in
-    let end = c.write_seq.new.self in
-    subst (λ x. IfOk c.write_seq.result (λ _. WritesConstruct s end c.args.around c.args.line x))
-    (sym (view-Seq v) ∙ ap construct_of (sym c.in-Seq.is))
-    (subst (λ cs. IfOk c.write_seq.result (λ _. WritesSeq s end c.args.around cs))
-    (ap all_processes c.deref.ensures.value) c.write_seq.ensures.ok)
+    of_parts (λ x. IfOk c.write_seq.result
+    (λ _. WritesConstruct c.args.self.now c.write_seq.new.self c.args.around c.args.line x))
+    (λ xs. in_seq (all_processes xs)) c.deref.ensures.value (view-Seq c.in-Seq.processes) c.in-Seq.is
+    c.write_seq.ensures.ok
 
 pub write_construct-returns-in-If-clause-ok : goal.write_construct-returns-in-If-clause-ok
 write_construct-returns-in-If-clause-ok t c =
-    let v = c.in-If.choices in
-    let s = c.args.self.now in
-    let end = c.write_if.new.self in
-    subst (λ x. IfOk c.write_if.result (λ _. WritesConstruct s end c.args.around c.args.line x))
-    (sym (view-If v) ∙ ap construct_of (sym c.in-If.is))
-    (subst (λ cs. IfOk c.write_if.result (λ _. WritesIf s end c.args.around cs))
-    (ap all_choices c.deref-in-If.ensures.value) c.write_if.ensures.ok)
+    of_parts (λ x. IfOk c.write_if.result
+    (λ _. WritesConstruct c.args.self.now c.write_if.new.self c.args.around c.args.line x))
+    (λ xs. in_if (all_choices xs)) c.deref-in-If.ensures.value (view-If c.in-If.choices) c.in-If.is
+    c.write_if.ensures.ok
 
 pub act-returns-clause-ok : goal.act-returns-clause-ok
 act-returns-clause-ok t c =
@@ -167,76 +162,46 @@ pub write_if-returns-clause-ok : goal.write_if-returns-clause-ok
 write_if-returns-clause-ok t c =
     let s = c.args.self.now in
     let begun = record s { label = c.in_ok-self.field-0; scope = c.begin.new.self } in
+    let left = choices_left c.args.around (all_choices c.args.choices.now) s begun c.write_choices.new.self
+    c.end.new.self refl (placed_at s c.begin.new.self c.in_ok-begin.ensures.ok c.in_ok-self.ensures)
+    c.in_ok-write_choices.ensures.ok c.end.ensures in
     writes_if c.args.around (all_choices c.args.choices.now) s c.write_choices.new.self c.write_row.new.self
-    c.end.new.self (choices_left c.args.around (all_choices c.args.choices.now) s begun c.write_choices.new.self
-    c.end.new.self refl
-    (λ i. record {
-      frame = frame_seen s.frame;
-      known = c.in_ok-begin.ensures.ok i;
-      label = c.in_ok-self.ensures i;
-    })
-    c.in_ok-write_choices.ensures.ok c.end.ensures) c.in_ok-write_row.ensures.row c.in_ok-write_row.ensures.site
+    c.end.new.self left c.in_ok-write_row.ensures.row c.in_ok-write_row.ensures.site
 
 pub write_taken-returns-clause-ok : goal.write_taken-returns-clause-ok
 write_taken-returns-clause-ok t c =
-    let x = c.args.choice.now in
-    let s = c.args.self.now in
-    let view = choice_seen x in
     let narrowed = (λ i. record { entries = c.narrow_by.ensures.entries i; blocks = c.narrow_by.ensures.blocks i })
-    ∙ ap (with_entries (where_holds (Some (expression_of x.condition)))) c.exclude.ensures in
-    subst (λ y. WritesAs s (record c.write.new.self { scope = c.next.new.self }) c.args.around taken_code y) view
-    (writes_taken c.args.around x.line (expression_of x.condition) (process_of x.process) s c.write.new.self
-    c.narrow_by.new.scope c.next.new.self narrowed c.in_ok-write.ensures.ok c.next.ensures)
+    ∙ ap (with_entries (where_holds (Some (expression_of c.args.choice.now.condition)))) c.exclude.ensures in
+    writes_taken c.args.around c.args.choice.now c.args.self.now c.write.new.self c.narrow_by.new.scope c.next.new.self
+    narrowed c.in_ok-write.ensures.ok c.next.ensures
 
 pub write_tested-returns-clause-ok : goal.write_tested-returns-clause-ok
 write_tested-returns-clause-ok t c =
     let x = c.args.choice.now in
     let s = c.args.self.now in
-    let line = x.line in
-    let e = expression_of x.condition in
-    let p = process_of x.process in
-    let after = c.write_row.new.self in
-    let view = choice_seen x in
-    let place : site_of c.write_test.new.self ≡ at_place (known_of s.scope) (s.label + 1) (site_of s) =
-    c.in_ok-write_test.ensures.site ∙ (λ i. record {
-      frame = frame_seen s.frame;
-      known = known_of s.scope;
-      label = c.in_ok-self.ensures i;
-    }) in
-    let chosen = subst (λ y. WritesAs c.write_test.new.self c.write_taken.new.self c.args.around taken_code y) (sym view)
-    c.in_ok-write_taken.ensures.ok in
-    subst (λ y. WritesAs s after c.args.around (tested_code c.args.end) y) view
-    (writes_tested c.args.around c.args.end line e p s c.write_test.new.self c.write_taken.new.self after
+    let place = c.in_ok-write_test.ensures.site ∙ placed_at s s.scope refl c.in_ok-self.ensures in
+    writes_tested c.args.around c.args.end x s c.write_test.new.self c.write_taken.new.self c.write_row.new.self
     c.push.new.self c.in_ok-write_test.ensures.code
-    (taken_left c.args.around line e p s c.write_test.new.self c.write_taken.new.self place chosen)
-    c.in_ok-push.ensures c.in_ok-write_row.ensures.row c.in_ok-write_row.ensures.site)
+    (taken_left c.args.around (choice_of x) s c.write_test.new.self c.write_taken.new.self place
+    c.in_ok-write_taken.ensures.ok)
+    c.in_ok-push.ensures c.in_ok-write_row.ensures.row c.in_ok-write_row.ensures.site
 
 pub write_open-returns-clause-ok : goal.write_open-returns-clause-ok
 write_open-returns-clause-ok t c =
-    let x = c.args.choice.now in
-    let s = c.args.self.now in
-    let line = x.line in
-    let e = expression_of x.condition in
-    let p = process_of x.process in
-    let view = choice_seen x in
-    let chosen = subst (λ y. WritesAs c.write_test.new.self c.write_taken.new.self c.args.around taken_code y) (sym view)
-    c.in_ok-write_taken.ensures.ok in
-    subst (λ y. WritesAs s c.write_taken.new.self c.args.around (open_code c.args.end) y) view
-    (writes_open c.args.around c.args.end line e p s c.write_test.new.self c.write_taken.new.self
-    c.in_ok-write_test.ensures.code c.in_ok-write_test.ensures.site chosen)
+    writes_open c.args.around c.args.end c.args.choice.now c.args.self.now c.write_test.new.self c.write_taken.new.self
+    c.in_ok-write_test.ensures.code c.in_ok-write_test.ensures.site c.in_ok-write_taken.ensures.ok
 
 -- ---- alternations
 
 pub write_construct-returns-in-Alt-clause-ok : goal.write_construct-returns-in-Alt-clause-ok
 write_construct-returns-in-Alt-clause-ok t c =
-    let v = c.in-Alt.branches in
-    let s = c.args.self.now in
-    let end = c.write_alt.new.self in
-    subst (λ x. IfOk c.write_alt.result (λ _. WritesConstruct s end c.args.around c.args.line x))
-    (sym (view-Alt v) ∙ ap construct_of (sym c.in-Alt.is))
+    of_construct (λ x. IfOk c.write_alt.result
+    (λ _. WritesConstruct c.args.self.now c.write_alt.new.self c.args.around c.args.line x))
+    (view-Alt c.in-Alt.branches) c.in-Alt.is
     (where_ok c.write_alt.result (λ _ x. record { code = tt; known = x.known; frame = x.frame })
-    (subst (λ cs. IfOk c.write_alt.result (λ _. FollowsAlt s end c.args.around cs))
-    (ap all_branches c.deref-in-Alt.ensures.value) c.write_alt.ensures))
+    (subst (λ xs. IfOk c.write_alt.result
+    (λ _. FollowsAlt c.args.self.now c.write_alt.new.self c.args.around (all_branches xs)))
+    c.deref-in-Alt.ensures.value c.write_alt.ensures))
 
 pub write_alt-returns : goal.write_alt-returns
 write_alt-returns t c =
@@ -327,57 +292,37 @@ write_replicated-returns-in-Alt-clause-ok t c =
 
 pub write_repeated_if-returns-clause-ok : goal.write_repeated_if-returns-clause-ok
 write_repeated_if-returns-clause-ok t c =
-    let s = c.args.self.now in
-    let r = replicator_of c.args.replicator.now in
-    let repeats = seen_repeats c.repeats_of-repeats.result in
-    let begun = record s {
-      label = c.in_ok-self.field-0;
-      scope = c.begin.new.self;
-      frame = c.add_home.new.self;
-    } in
-    let place : site_of begun ≡ before_turns (site_of s) (begin (known_of s.scope)) = λ i. record {
-      frame = c.in_ok-add_home.ensures i;
-      known = c.in_ok-begin.ensures.ok i;
-      label = c.in_ok-self.ensures i;
-    } in
-    let counted = c.repeats_of-repeats.ensures
-    ∙ (λ i. repeats_of (c.is_before-counted.ensures i) (known_of s.scope).entries false r) in
-    let written = subst (λ n. WritesTurns begun c.write_turns.new.self c.args.around s.label r.name repeats n
-    (choice_of c.args.choice.now)) c.times.ensures c.in_ok-write_turns.ensures.ok in
-    let long : c.len-names.result ≡ length s.frame.homes.items = omega arith in
-    writes_repeated_if c.args.around c.args.line r (choice_of c.args.choice.now) s c.write_turns.new.self
-    c.write_row.new.self c.leave.new.self c.end.new.self
-    (turns_left c.args.around c.args.line c.len-names.result r (choice_of c.args.choice.now) repeats s begun
-    c.write_turns.new.self c.leave.new.self c.end.new.self counted refl place written long
-    c.leave.ensures.homes c.leave.ensures.top c.leave.ensures.outer c.end.ensures) c.in_ok-write_row.ensures.row
-    c.in_ok-write_row.ensures.site
+    let begins = turns_begin c.args.around c.args.line (replicator_of c.args.replicator.now) c.args.self.now
+    c.begin.new.self c.add_home.new.self c.in_ok-add_home.ensures c.in_ok-begin.ensures.ok c.in_ok-self.ensures
+    c.repeats_of-repeats.ensures c.is_before-counted.ensures in
+    let left = turns_left (choice_of c.args.choice.now) c.len-names.result c.leave.new.self c.end.new.self begins
+    c.times.ensures c.in_ok-write_turns.ensures.ok (omega arith) c.leave.ensures.homes c.leave.ensures.top
+    c.leave.ensures.outer c.end.ensures in
+    writes_repeated_if c.args.around c.args.line (replicator_of c.args.replicator.now) (choice_of c.args.choice.now)
+    c.args.self.now c.write_turns.new.self c.write_row.new.self c.leave.new.self c.end.new.self left
+    c.in_ok-write_row.ensures.row c.in_ok-write_row.ensures.site
 
 pub write_loop-returns-clause-ok : goal.write_loop-returns-clause-ok
 write_loop-returns-clause-ok t c =
+    let l = turning_with c.args.replicator.now.name c.index_in.result c.value_or_zero.result
+    c.value_or_zero-count.result in
+    let turns = is_turning c.args.around c.args.line (replicator_of c.args.replicator.now) c.args.self.now l refl
+    c.index_in.ensures c.repeats_of-repeats.ensures c.is_before-counted.ensures c.value_or_zero.ensures
+    c.value_or_zero-count.ensures (λ none. c.if-count-eq0.false (ap (of_z w32) none)) in
+    writes_loop (process_of c.args.process.now) c.args.changed.now turns
+    (subst (λ (x : Turning). WritesTurning c.args.self.now c.write_turning.new.self c.args.around x c.args.changed.now
+    (process_of c.args.process.now)) (as_passed l (search rules) (search rules)) c.in_ok-write_turning.ensures.ok)
+
+pub write_turning-returns-clause-ok : goal.write_turning-returns-clause-ok
+write_turning-returns-clause-ok t c =
     let s = c.args.self.now in
-    let r = replicator_of c.args.replicator.now in
-    let es = (known_of s.scope).entries in
-    let l : Turning = record {
-      name = c.args.replicator.now.name;
-      index = c.index_in.result;
-      base = c.value_or_zero.result;
-      count = c.value_or_zero-count.result;
-    } in
-    let base = to_z-of_z w32 c.value_or_zero.result (search rules) in
-    let count = to_z-of_z w32 c.value_or_zero-count.result (search rules) in
-    let enters = subst (λ (l : Turning). EntersLoop s c.enter_loop.new.self l c.args.changed.now)
-    (λ i. record { name = l.name; index = l.index; base = base i; count = count i }) c.in_ok-enter_loop.ensures.ok in
+    let l = c.args.turning in
+    let p = process_of c.args.process.now in
+    let enters = c.in_ok-enter_loop.ensures.ok in
     let long : c.len-names.result ≡ length s.frame.homes.items = omega arith in
-    let repeats = c.repeats_of-repeats.ensures
-    ∙ (λ i. repeats_of (c.is_before-counted.ensures i) es true r) in
-    let index = c.index_in.ensures ∙ ap (λ x. index_in x 0) repeats in
-    writes_loop c.args.around c.args.line r (process_of c.args.process.now) l c.args.changed.now s
-    c.leave_loop.new.self refl index c.value_or_zero.ensures c.value_or_zero-count.ensures
-    (λ none. c.if-count-eq0.false (ap (of_z w32) none))
-    (writes_turning c.args.around (process_of c.args.process.now) l c.args.changed.now c.len-names.result
-    s.frame.top s.label enters
-    (body_left c.args.around (process_of c.args.process.now) l c.args.changed.now c.len-names.result s.frame.top s.label
-    enters c.in_ok-write_one.ensures.ok long refl refl) c.in_ok-leave_loop.ensures.ok)
+    writes_turning c.args.around p l c.args.changed.now c.len-names.result s.frame.top s.label enters
+    (body_left c.args.around p l c.args.changed.now c.len-names.result s.frame.top s.label enters
+    c.in_ok-write_one.ensures.ok long refl refl) c.in_ok-leave_loop.ensures.ok
 
 pub write_replicated-returns-in_ok-write_loop-in-Seq-clause-ok :
     goal.write_replicated-returns-in_ok-write_loop-in-Seq-clause-ok
@@ -399,13 +344,12 @@ write_replicated-returns-in_ok-write_loop-in-Seq-clause-ok t c =
 
 pub write_construct-returns-in-Par-clause-ok : goal.write_construct-returns-in-Par-clause-ok
 write_construct-returns-in-Par-clause-ok t c =
-    let v = c.in-Par.processes in
     let s = c.args.self.now in
     let end = c.write_par.new.self in
-    subst (λ x. IfOk c.write_par.result (λ _. WritesConstruct s end c.args.around c.args.line x))
-    (sym (view-Par v) ∙ ap construct_of (sym c.in-Par.is))
-    (subst (λ cs. IfOk c.write_par.result (λ _. WritesPar s end c.args.around cs))
-    (ap all_processes c.deref-in-Par.ensures.value) c.write_par.ensures)
+    of_construct (λ x. IfOk c.write_par.result (λ _. WritesConstruct s end c.args.around c.args.line x))
+    (view-Par c.in-Par.processes) c.in-Par.is
+    (subst (λ xs. IfOk c.write_par.result (λ _. WritesPar s end c.args.around (all_processes xs)))
+    c.deref-in-Par.ensures.value c.write_par.ensures)
 
 pub write_par-loop-process-init : goal.write_par-loop-process-init
 write_par-loop-process-init t c = record { code = tt; known = refl; frame = refl }
@@ -473,67 +417,57 @@ write_replicated-returns-in-Par-clause-ok t c =
 
 -- ---- what is too much
 
-pub write-returns-in_err-write_process-clause-limit : goal.write-returns-in_err-write_process-clause-limit
-write-returns-in_err-write_process-clause-limit t c = λ e.
-    let s = c.args.self.now in
+pub write-returns-in_err-declare_all-clause-limit : goal.write-returns-in_err-declare_all-clause-limit
+write-returns-in_err-declare_all-clause-limit t c = λ e.
+    let p = c.args.process.now in
     let here = surroundings_of c.args.around in
     let begun = c.in_ok-before.ensures in
-    let fault = handed_on c.from_residual-in_err-write_process.result c.in_err-write_process.field-0.0 Limit
-    c.from_residual-in_err-write_process.ensures.1 e in
-    exceeds_from c.args.around.limits s c.begin_line.new.self (process_code here (process_of c.args.process.now))
-    begun.listing (spent_place begun) (c.in_err-write_process.ensures.limit (ap Err fault))
-
-pub write_process-returns-in_err-declare_all-clause-limit : goal.write_process-returns-in_err-declare_all-clause-limit
-write_process-returns-in_err-declare_all-clause-limit t c = λ e.
-    let p = c.args.process.now in
-    let s = c.args.self.now in
     let ds = map declaration_of c.deref.result.now in
     let view : with_declarations (map declaration_of p.declarations.items)
     (Does p.line (construct_of p.construct.value)) ≡ process_of p = search (rules, the_lemmas) in
     let fault = handed_on c.from_residual-in_err-declare_all.result c.in_err-declare_all.field-0.0 Limit
     c.from_residual-in_err-declare_all.ensures.1 e in
-    exceeds_declaring c.args.around.limits s (surroundings_of c.args.around) ds p.line
-    (construct_of p.construct.value) (process_of p)
+    exceeds_from c.args.around.limits c.args.self.now c.begin_line.new.self (process_code here (process_of p))
+    begun.listing (spent_place begun)
+    (exceeds_declaring c.args.around.limits c.begin_line.new.self here ds p.line (construct_of p.construct.value)
+    (process_of p)
     ((λ i. with_declarations (map declaration_of (c.deref.ensures.value i))
-    (Does p.line (construct_of p.construct.value))) ∙ view) (c.in_err-declare_all.ensures.limit (ap Err fault))
+    (Does p.line (construct_of p.construct.value))) ∙ view) (c.in_err-declare_all.ensures.limit (ap Err fault)))
 
-pub write_process-returns-in_err-write_construct-clause-limit :
-    goal.write_process-returns-in_err-write_construct-clause-limit
-write_process-returns-in_err-write_construct-clause-limit t c = λ e.
+pub write-returns-in_err-write_construct-clause-limit : goal.write-returns-in_err-write_construct-clause-limit
+write-returns-in_err-write_construct-clause-limit t c = λ e.
     let p = c.args.process.now in
-    let s = c.args.self.now in
+    let whole = process_of p in
+    let s = c.begin_line.new.self in
     let inside = c.in_ok-inside.inside in
-    let view : with_declarations (map declaration_of p.declarations.items)
-    (Does p.line (construct_of p.construct.value)) ≡ process_of p = search (rules, the_lemmas) in
+    let begun = c.in_ok-before.ensures in
     let fault = handed_on c.from_residual-in_err-write_construct.result c.in_err-write_construct.field-0.0 Limit
     c.from_residual-in_err-write_construct.ensures.1 e in
-    subst (λ (x : Limits × Surroundings). Exceeds x.0 s.listing (process_code x.1 (process_of p) (site_of s)))
+    let view : with_declarations (map declaration_of p.declarations.items)
+    (Does p.line (construct_of p.construct.value)) ≡ whole = search (rules, the_lemmas) in
+    exceeds_from c.args.around.limits c.args.self.now s (process_code (surroundings_of c.args.around) whole)
+    begun.listing (spent_place begun)
+    (subst (λ (x : Limits × Surroundings). Exceeds x.0 s.listing (process_code x.1 whole (site_of s)))
     (λ i. (c.in_ok-inside.ensures.limits i, c.in_ok-inside.ensures.same i))
     (exceeds_process inside.limits inside (map declaration_of c.deref.result.now) p.line
-    (construct_of c.deref-2.result.now) (process_of p)
+    (construct_of c.deref-2.result.now) whole
     ((λ i. with_declarations (map declaration_of (c.deref.ensures.value i))
     (Does p.line (construct_of (c.deref-2.ensures i)))) ∙ view) c.in_ok-declare_all.ensures.ok
-    (c.in_err-write_construct.ensures.limit (ap Err fault)))
+    (c.in_err-write_construct.ensures.limit (ap Err fault))))
 
 pub write_construct-returns-in-Seq-clause-limit : goal.write_construct-returns-in-Seq-clause-limit
 write_construct-returns-in-Seq-clause-limit t c = λ e.
-    let v = c.in-Seq.processes in
-    let s = c.args.self.now in
-    let here = surroundings_of c.args.around in
-    subst (λ x. Exceeds c.args.around.limits s.listing (construct_code here c.args.line x (site_of s)))
-    (sym (view-Seq v) ∙ ap construct_of (sym c.in-Seq.is))
-    (subst (λ cs. Exceeds c.args.around.limits s.listing (components_code here cs (site_of s)))
-    (ap all_processes c.deref.ensures.value) (c.write_seq.ensures.limit e))
+    of_parts (λ x. Exceeds c.args.around.limits c.args.self.now.listing
+    (construct_code (surroundings_of c.args.around) c.args.line x (site_of c.args.self.now)))
+    (λ xs. in_seq (all_processes xs)) c.deref.ensures.value (view-Seq c.in-Seq.processes) c.in-Seq.is
+    (c.write_seq.ensures.limit e)
 
 pub write_construct-returns-in-If-clause-limit : goal.write_construct-returns-in-If-clause-limit
 write_construct-returns-in-If-clause-limit t c = λ e.
-    let v = c.in-If.choices in
-    let s = c.args.self.now in
-    let here = surroundings_of c.args.around in
-    subst (λ x. Exceeds c.args.around.limits s.listing (construct_code here c.args.line x (site_of s)))
-    (sym (view-If v) ∙ ap construct_of (sym c.in-If.is))
-    (subst (λ cs. Exceeds c.args.around.limits s.listing (if_at here cs (site_of s)))
-    (ap all_choices c.deref-in-If.ensures.value) (c.write_if.ensures.limit e))
+    of_parts (λ x. Exceeds c.args.around.limits c.args.self.now.listing
+    (construct_code (surroundings_of c.args.around) c.args.line x (site_of c.args.self.now)))
+    (λ xs. in_if (all_choices xs)) c.deref-in-If.ensures.value (view-If c.in-If.choices) c.in-If.is
+    (c.write_if.ensures.limit e)
 
 pub act-returns-in_err-write_line-clause-limit : goal.act-returns-in_err-write_line-clause-limit
 act-returns-in_err-write_line-clause-limit t c = λ e.
@@ -561,236 +495,125 @@ write_if-returns-in_err-write_choices-clause-limit t c = λ e.
     let fault = handed_on c.from_residual-in_err-write_choices.result c.in_err-write_choices.field-0.0 Limit
     c.from_residual-in_err-write_choices.ensures.1 e in
     exceeds_if c.args.around.limits (surroundings_of c.args.around) (all_choices c.args.choices.now) s begun refl
-    (λ i. record {
-      frame = frame_seen s.frame;
-      known = c.in_ok-begin.ensures.ok i;
-      label = c.in_ok-self.ensures i;
-    })
+    (placed_at s c.begin.new.self c.in_ok-begin.ensures.ok c.in_ok-self.ensures)
     (c.in_err-write_choices.ensures.limit (ap Err fault))
 
 pub write_if-returns-in_err-write_row-clause-limit : goal.write_if-returns-in_err-write_row-clause-limit
 write_if-returns-in_err-write_row-clause-limit t c = λ e.
     let s = c.args.self.now in
     let begun = record s { label = c.in_ok-self.field-0; scope = c.begin.new.self } in
+    let left = choices_left c.args.around (all_choices c.args.choices.now) s begun c.write_choices.new.self
+    c.end.new.self refl (placed_at s c.begin.new.self c.in_ok-begin.ensures.ok c.in_ok-self.ensures)
+    c.in_ok-write_choices.ensures.ok c.end.ensures in
     let fault = handed_on c.from_residual-in_err-write_row.result c.in_err-write_row.field-0.0 Limit
     c.from_residual-in_err-write_row.ensures.1 e in
     exceeds_if_end c.args.around.limits c.args.around (all_choices c.args.choices.now) s c.write_choices.new.self
-    c.end.new.self (choices_left c.args.around (all_choices c.args.choices.now) s begun c.write_choices.new.self
-    c.end.new.self refl
-    (λ i. record {
-      frame = frame_seen s.frame;
-      known = c.in_ok-begin.ensures.ok i;
-      label = c.in_ok-self.ensures i;
-    })
-    c.in_ok-write_choices.ensures.ok c.end.ensures) (c.in_err-write_row.ensures.limit (ap Err fault))
+    c.end.new.self left (c.in_err-write_row.ensures.limit (ap Err fault))
 
 pub write_taken-returns-in_err-write-clause-limit : goal.write_taken-returns-in_err-write-clause-limit
 write_taken-returns-in_err-write-clause-limit t c = λ e.
-    let x = c.args.choice.now in
-    let s = c.args.self.now in
-    let here = surroundings_of c.args.around in
-    let view = choice_seen x in
     let narrowed = (λ i. record { entries = c.narrow_by.ensures.entries i; blocks = c.narrow_by.ensures.blocks i })
-    ∙ ap (with_entries (where_holds (Some (expression_of x.condition)))) c.exclude.ensures in
+    ∙ ap (with_entries (where_holds (Some (expression_of c.args.choice.now.condition)))) c.exclude.ensures in
     let fault = handed_on c.from_residual.result c.in_err-write.field-0.0 Limit c.from_residual.ensures.1 e in
-    subst (λ y. Exceeds c.args.around.limits s.listing (choice_as taken_code here y (site_of s))) view
-    (exceeds_taken c.args.around.limits s here x.line (expression_of x.condition) (process_of x.process)
-    c.narrow_by.new.scope narrowed (c.in_err-write.ensures.limit (ap Err fault)))
+    exceeds_taken c.args.around.limits c.args.self.now (surroundings_of c.args.around) c.args.choice.now
+    c.narrow_by.new.scope narrowed (c.in_err-write.ensures.limit (ap Err fault))
 
 pub write_tested-returns-in_err-write_taken-clause-limit : goal.write_tested-returns-in_err-write_taken-clause-limit
 write_tested-returns-in_err-write_taken-clause-limit t c = λ e.
-    let x = c.args.choice.now in
     let s = c.args.self.now in
-    let here = surroundings_of c.args.around in
-    let view = choice_seen x in
-    let tested = c.write_test.new.self in
-    let place : site_of tested ≡ at_place (known_of s.scope) (s.label + 1) (site_of s) =
-    c.in_ok-write_test.ensures.site ∙ (λ i. record {
-      frame = frame_seen s.frame;
-      known = known_of s.scope;
-      label = c.in_ok-self.ensures i;
-    }) in
     let fault = handed_on c.from_residual-in_err-write_taken.result c.in_err-write_taken.field-0.0 Limit
     c.from_residual-in_err-write_taken.ensures.1 e in
-    subst (λ y. Exceeds c.args.around.limits s.listing (choice_as (tested_code c.args.end) here y (site_of s))) view
-    (exceeds_tested c.args.around.limits here c.args.end x.line (expression_of x.condition) (process_of x.process) s
-    tested c.in_ok-write_test.ensures.code place
-    (subst (λ y. Exceeds c.args.around.limits tested.listing (choice_as taken_code here y (site_of tested))) (sym view)
-    (c.in_err-write_taken.ensures.limit (ap Err fault))))
+    exceeds_tested c.args.around.limits (surroundings_of c.args.around) c.args.end c.args.choice.now s
+    c.write_test.new.self c.in_ok-write_test.ensures.code
+    (c.in_ok-write_test.ensures.site ∙ placed_at s s.scope refl c.in_ok-self.ensures)
+    (c.in_err-write_taken.ensures.limit (ap Err fault))
 
 pub write_tested-returns-in_err-write_row-clause-limit : goal.write_tested-returns-in_err-write_row-clause-limit
 write_tested-returns-in_err-write_row-clause-limit t c = λ e.
     let x = c.args.choice.now in
     let s = c.args.self.now in
-    let here = surroundings_of c.args.around in
-    let view = choice_seen x in
-    let place : site_of c.write_test.new.self ≡ at_place (known_of s.scope) (s.label + 1) (site_of s) =
-    c.in_ok-write_test.ensures.site ∙ (λ i. record {
-      frame = frame_seen s.frame;
-      known = known_of s.scope;
-      label = c.in_ok-self.ensures i;
-    }) in
-    let chosen = subst (λ y. WritesAs c.write_test.new.self c.write_taken.new.self c.args.around taken_code y) (sym view)
-    c.in_ok-write_taken.ensures.ok in
     let fault = handed_on c.from_residual-in_err-write_row.result c.in_err-write_row.field-0.0 Limit
     c.from_residual-in_err-write_row.ensures.1 e in
-    subst (λ y. Exceeds c.args.around.limits s.listing (choice_as (tested_code c.args.end) here y (site_of s))) view
-    (exceeds_other c.args.around.limits c.args.around c.args.end x.line (expression_of x.condition)
-    (process_of x.process) s c.write_test.new.self c.write_taken.new.self c.push.new.self
-    c.in_ok-write_test.ensures.code
-    (taken_left c.args.around x.line (expression_of x.condition) (process_of x.process) s c.write_test.new.self
-    c.write_taken.new.self place chosen) c.in_ok-push.ensures (c.in_err-write_row.ensures.limit (ap Err fault)))
+    exceeds_other c.args.around.limits c.args.around c.args.end x s c.write_test.new.self c.write_taken.new.self
+    c.push.new.self c.in_ok-write_test.ensures.code
+    (taken_left c.args.around (choice_of x) s c.write_test.new.self c.write_taken.new.self
+    (c.in_ok-write_test.ensures.site ∙ placed_at s s.scope refl c.in_ok-self.ensures) c.in_ok-write_taken.ensures.ok)
+    c.in_ok-push.ensures (c.in_err-write_row.ensures.limit (ap Err fault))
 
-pub write_open-returns-in_err-write_taken-clause-limit :
-    goal.write_open-returns-in_err-write_taken-clause-limit
+pub write_open-returns-in_err-write_taken-clause-limit : goal.write_open-returns-in_err-write_taken-clause-limit
 write_open-returns-in_err-write_taken-clause-limit t c = λ e.
-    let x = c.args.choice.now in
-    let s = c.args.self.now in
-    let here = surroundings_of c.args.around in
-    let view = choice_seen x in
-    let tested = c.write_test.new.self in
     let fault = handed_on c.from_residual-in_err-write_taken.result c.in_err-write_taken.field-0.0 Limit
     c.from_residual-in_err-write_taken.ensures.1 e in
-    subst (λ y. Exceeds c.args.around.limits s.listing (choice_as (open_code c.args.end) here y (site_of s))) view
-    (exceeds_open c.args.around.limits here c.args.end x.line (expression_of x.condition) (process_of x.process) s
-    tested c.in_ok-write_test.ensures.code c.in_ok-write_test.ensures.site
-    (subst (λ y. Exceeds c.args.around.limits tested.listing (choice_as taken_code here y (site_of tested))) (sym view)
-    (c.in_err-write_taken.ensures.limit (ap Err fault))))
+    exceeds_open c.args.around.limits (surroundings_of c.args.around) c.args.end c.args.choice.now c.args.self.now
+    c.write_test.new.self c.in_ok-write_test.ensures.code c.in_ok-write_test.ensures.site
+    (c.in_err-write_taken.ensures.limit (ap Err fault))
 
 pub write_repeated_if-returns-in_err-write_turns-clause-limit :
     goal.write_repeated_if-returns-in_err-write_turns-clause-limit
 write_repeated_if-returns-in_err-write_turns-clause-limit t c = λ e.
-    let s = c.args.self.now in
-    let r = replicator_of c.args.replicator.now in
-    let here = surroundings_of c.args.around in
-    let repeats = seen_repeats c.repeats_of-repeats.result in
-    let begun = record s {
-      label = c.in_ok-self.field-0;
-      scope = c.begin.new.self;
-      frame = c.add_home.new.self;
-    } in
-    let place : site_of begun ≡ before_turns (site_of s) (begin (known_of s.scope)) = λ i. record {
-      frame = c.in_ok-add_home.ensures i;
-      known = c.in_ok-begin.ensures.ok i;
-      label = c.in_ok-self.ensures i;
-    } in
-    let counted = c.repeats_of-repeats.ensures
-    ∙ (λ i. repeats_of (c.is_before-counted.ensures i) (known_of s.scope).entries false r) in
     let fault = handed_on c.from_residual-in_err-write_turns.result c.in_err-write_turns.field-0.0 Limit
     c.from_residual-in_err-write_turns.ensures.1 e in
-    exceeds_repeated c.args.around.limits c.args.around c.args.line r (choice_of c.args.choice.now) repeats s begun
-    counted refl place
-    (subst (λ n. Exceeds c.args.around.limits s.listing (turns_at here s.label r.name (choice_of c.args.choice.now)
-    repeats n (site_of begun))) c.times.ensures (c.in_err-write_turns.ensures.limit (ap Err fault)))
+    exceeds_repeated c.args.around.limits (choice_of c.args.choice.now)
+    (turns_begin c.args.around c.args.line (replicator_of c.args.replicator.now) c.args.self.now
+    c.begin.new.self c.add_home.new.self c.in_ok-add_home.ensures c.in_ok-begin.ensures.ok c.in_ok-self.ensures
+    c.repeats_of-repeats.ensures c.is_before-counted.ensures)
+    c.times.ensures (c.in_err-write_turns.ensures.limit (ap Err fault))
 
 pub write_repeated_if-returns-in_err-write_row-clause-limit :
     goal.write_repeated_if-returns-in_err-write_row-clause-limit
 write_repeated_if-returns-in_err-write_row-clause-limit t c = λ e.
-    let s = c.args.self.now in
-    let r = replicator_of c.args.replicator.now in
-    let repeats = seen_repeats c.repeats_of-repeats.result in
-    let begun = record s {
-      label = c.in_ok-self.field-0;
-      scope = c.begin.new.self;
-      frame = c.add_home.new.self;
-    } in
-    let place : site_of begun ≡ before_turns (site_of s) (begin (known_of s.scope)) = λ i. record {
-      frame = c.in_ok-add_home.ensures i;
-      known = c.in_ok-begin.ensures.ok i;
-      label = c.in_ok-self.ensures i;
-    } in
-    let counted = c.repeats_of-repeats.ensures
-    ∙ (λ i. repeats_of (c.is_before-counted.ensures i) (known_of s.scope).entries false r) in
-    let written = subst (λ n. WritesTurns begun c.write_turns.new.self c.args.around s.label r.name repeats n
-    (choice_of c.args.choice.now)) c.times.ensures c.in_ok-write_turns.ensures.ok in
-    let long : c.len-names.result ≡ length s.frame.homes.items = omega arith in
+    let begins = turns_begin c.args.around c.args.line (replicator_of c.args.replicator.now) c.args.self.now
+    c.begin.new.self c.add_home.new.self c.in_ok-add_home.ensures c.in_ok-begin.ensures.ok c.in_ok-self.ensures
+    c.repeats_of-repeats.ensures c.is_before-counted.ensures in
     let fault = handed_on c.from_residual-in_err-write_row.result c.in_err-write_row.field-0.0 Limit
     c.from_residual-in_err-write_row.ensures.1 e in
-    exceeds_repeated_end c.args.around.limits c.args.around c.args.line r (choice_of c.args.choice.now) s
-    c.write_turns.new.self c.leave.new.self c.end.new.self
-    (turns_left c.args.around c.args.line c.len-names.result r (choice_of c.args.choice.now) repeats s begun
-    c.write_turns.new.self c.leave.new.self c.end.new.self counted refl place written long
-    c.leave.ensures.homes c.leave.ensures.top c.leave.ensures.outer c.end.ensures)
+    let left = turns_left (choice_of c.args.choice.now) c.len-names.result c.leave.new.self c.end.new.self begins
+    c.times.ensures c.in_ok-write_turns.ensures.ok (omega arith) c.leave.ensures.homes c.leave.ensures.top
+    c.leave.ensures.outer c.end.ensures in
+    exceeds_repeated_end c.args.around.limits c.args.around c.args.line (replicator_of c.args.replicator.now)
+    (choice_of c.args.choice.now) c.args.self.now c.write_turns.new.self c.leave.new.self c.end.new.self left
     (c.in_err-write_row.ensures.limit (ap Err fault))
 
-pub write_loop-returns-in_err-enter_loop-clause-limit : goal.write_loop-returns-in_err-enter_loop-clause-limit
-write_loop-returns-in_err-enter_loop-clause-limit t c = λ e.
+pub write_loop-returns-in_err-write_turning-clause-limit : goal.write_loop-returns-in_err-write_turning-clause-limit
+write_loop-returns-in_err-write_turning-clause-limit t c = λ e.
     let s = c.args.self.now in
-    let r = replicator_of c.args.replicator.now in
-    let p = process_of c.args.process.now in
-    let l : Turning = record {
-      name = c.args.replicator.now.name;
-      index = c.index_in.result;
-      base = c.value_or_zero.result;
-      count = c.value_or_zero-count.result;
-    } in
-    let base = to_z-of_z w32 c.value_or_zero.result (search rules) in
-    let count = to_z-of_z w32 c.value_or_zero-count.result (search rules) in
-    let fault = handed_on c.from_residual.result c.in_err-enter_loop.field-0.0 Limit
-    c.from_residual.ensures.1 e in
-    let much = subst
-    (λ (l : Turning). IsTooMuch c.args.around.limits s.listing (entering_code l c.args.changed.now (site_of s)))
-    (λ i. record { name = l.name; index = l.index; base = base i; count = count i })
-    (c.in_err-enter_loop.ensures.limit (ap Err fault)) in
-    let repeats = c.repeats_of-repeats.ensures
-    ∙ (λ i. repeats_of (c.is_before-counted.ensures i) (known_of s.scope).entries true r) in
-    let index = c.index_in.ensures ∙ ap (λ x. index_in x 0) repeats in
-    exceeds_loop c.args.around.limits c.args.around c.args.line r p l c.args.changed.now s refl index
-    c.value_or_zero.ensures c.value_or_zero-count.ensures (λ none. c.if-count-eq0.false (ap (of_z w32) none))
-    (exceeds_entering c.args.around.limits s (surroundings_of c.args.around) p l c.args.changed.now much)
+    let l = turning_with c.args.replicator.now.name c.index_in.result c.value_or_zero.result
+    c.value_or_zero-count.result in
+    let fault = handed_on c.from_residual.result c.in_err-write_turning.field-0.0 Limit c.from_residual.ensures.1 e in
+    let turns = is_turning c.args.around c.args.line (replicator_of c.args.replicator.now) c.args.self.now l refl
+    c.index_in.ensures c.repeats_of-repeats.ensures c.is_before-counted.ensures c.value_or_zero.ensures
+    c.value_or_zero-count.ensures (λ none. c.if-count-eq0.false (ap (of_z w32) none)) in
+    exceeds_loop c.args.around.limits (process_of c.args.process.now) c.args.changed.now turns
+    (subst (λ (x : Turning). Exceeds c.args.around.limits s.listing (turning_code (surroundings_of c.args.around) x
+    c.args.changed.now (process_of c.args.process.now) (site_of s))) (as_passed l (search rules) (search rules))
+    (c.in_err-write_turning.ensures.limit (ap Err fault)))
 
-pub write_loop-returns-in_err-write_one-clause-limit : goal.write_loop-returns-in_err-write_one-clause-limit
-write_loop-returns-in_err-write_one-clause-limit t c = λ e.
-    let s = c.args.self.now in
-    let r = replicator_of c.args.replicator.now in
-    let p = process_of c.args.process.now in
-    let l : Turning = record {
-      name = c.args.replicator.now.name;
-      index = c.index_in.result;
-      base = c.value_or_zero.result;
-      count = c.value_or_zero-count.result;
-    } in
-    let base = to_z-of_z w32 c.value_or_zero.result (search rules) in
-    let count = to_z-of_z w32 c.value_or_zero-count.result (search rules) in
-    let enters = subst (λ (l : Turning). EntersLoop s c.enter_loop.new.self l c.args.changed.now)
-    (λ i. record { name = l.name; index = l.index; base = base i; count = count i }) c.in_ok-enter_loop.ensures.ok in
-    let repeats = c.repeats_of-repeats.ensures
-    ∙ (λ i. repeats_of (c.is_before-counted.ensures i) (known_of s.scope).entries true r) in
-    let index = c.index_in.ensures ∙ ap (λ x. index_in x 0) repeats in
+pub write_turning-returns-in_err-enter_loop-clause-limit : goal.write_turning-returns-in_err-enter_loop-clause-limit
+write_turning-returns-in_err-enter_loop-clause-limit t c = λ e.
+    let fault = handed_on c.from_residual.result c.in_err-enter_loop.field-0.0 Limit c.from_residual.ensures.1 e in
+    exceeds_entering c.args.around.limits c.args.self.now (surroundings_of c.args.around) (process_of c.args.process.now)
+    c.args.turning c.args.changed.now (c.in_err-enter_loop.ensures.limit (ap Err fault))
+
+pub write_turning-returns-in_err-write_one-clause-limit : goal.write_turning-returns-in_err-write_one-clause-limit
+write_turning-returns-in_err-write_one-clause-limit t c = λ e.
     let fault = handed_on c.from_residual-in_err-write_one.result c.in_err-write_one.field-0.0 Limit
     c.from_residual-in_err-write_one.ensures.1 e in
-    exceeds_loop c.args.around.limits c.args.around c.args.line r p l c.args.changed.now s refl index
-    c.value_or_zero.ensures c.value_or_zero-count.ensures (λ none. c.if-count-eq0.false (ap (of_z w32) none))
-    (exceeds_body c.args.around.limits c.args.around p l c.args.changed.now enters
-    (c.in_err-write_one.ensures.limit (ap Err fault)))
+    exceeds_body c.args.around.limits c.args.around (process_of c.args.process.now) c.args.turning c.args.changed.now
+    c.in_ok-enter_loop.ensures.ok (c.in_err-write_one.ensures.limit (ap Err fault))
 
-pub write_loop-returns-in_err-leave_loop-clause-limit : goal.write_loop-returns-in_err-leave_loop-clause-limit
-write_loop-returns-in_err-leave_loop-clause-limit t c = λ e.
+pub write_turning-returns-in_err-leave_loop-clause-limit : goal.write_turning-returns-in_err-leave_loop-clause-limit
+write_turning-returns-in_err-leave_loop-clause-limit t c = λ e.
     let s = c.args.self.now in
-    let r = replicator_of c.args.replicator.now in
+    let l = c.args.turning in
     let p = process_of c.args.process.now in
-    let l : Turning = record {
-      name = c.args.replicator.now.name;
-      index = c.index_in.result;
-      base = c.value_or_zero.result;
-      count = c.value_or_zero-count.result;
-    } in
-    let base = to_z-of_z w32 c.value_or_zero.result (search rules) in
-    let count = to_z-of_z w32 c.value_or_zero-count.result (search rules) in
-    let enters = subst (λ (l : Turning). EntersLoop s c.enter_loop.new.self l c.args.changed.now)
-    (λ i. record { name = l.name; index = l.index; base = base i; count = count i }) c.in_ok-enter_loop.ensures.ok in
-    let long : c.len-names.result ≡ length s.frame.homes.items = omega arith in
-    let repeats = c.repeats_of-repeats.ensures
-    ∙ (λ i. repeats_of (c.is_before-counted.ensures i) (known_of s.scope).entries true r) in
-    let index = c.index_in.ensures ∙ ap (λ x. index_in x 0) repeats in
     let fault = handed_on c.from_residual-in_err-leave_loop.result c.in_err-leave_loop.field-0.0 Limit
     c.from_residual-in_err-leave_loop.ensures.1 e in
-    exceeds_loop c.args.around.limits c.args.around c.args.line r p l c.args.changed.now s refl index
-    c.value_or_zero.ensures c.value_or_zero-count.ensures (λ none. c.if-count-eq0.false (ap (of_z w32) none))
-    (exceeds_leaving c.args.around.limits c.args.around p l c.args.changed.now c.len-names.result s.frame.top s.label
+    let enters = c.in_ok-enter_loop.ensures.ok in
+    let long : c.len-names.result ≡ length s.frame.homes.items = omega arith in
+    exceeds_leaving c.args.around.limits c.args.around p l c.args.changed.now c.len-names.result s.frame.top s.label
     enters
     (body_left c.args.around p l c.args.changed.now c.len-names.result s.frame.top s.label enters
-    c.in_ok-write_one.ensures.ok long refl refl) (c.in_err-leave_loop.ensures.limit (ap Err fault)))
+    c.in_ok-write_one.ensures.ok long refl refl) (c.in_err-leave_loop.ensures.limit (ap Err fault))
 
 pub write_replicated-returns-in_err-write_loop-in-Seq-clause-limit :
     goal.write_replicated-returns-in_err-write_loop-in-Seq-clause-limit
@@ -895,66 +718,50 @@ write_turns-loop-turn-preserved t c =
 
 pub write_turns-returns-then-tested-count-clause-ok : goal.write_turns-returns-then-tested-count-clause-ok
 write_turns-returns-then-tested-count-clause-ok t c =
-    let x = c.args.choice.now in
-    let repeats = seen_repeats c.args.repeats in
-    let tested = c.turns_tested-tested.result in
-    let done : c.loop-turn.turn ≡ tested = omega arith in
-    let all : tested ≡ c.args.count = omega arith in
-    let written = subst (λ n. WritesSomeTurns c.args.self.now c.loop-turn.self c.args.around c.args.end c.args.name.now
-    repeats (choice_of x) n) done c.loop-turn.invariant in
-    turns_stopped c.args.around c.args.end c.args.name.now repeats x.line (expression_of x.condition)
-    (process_of x.process) (choice_of x) c.args.count tested c.operate.new.self (choice_seen x)
-    c.turns_tested-tested.ensures all written c.in_ok-operate.ensures
+    let all : c.turns_tested-tested.result ≡ c.args.count = omega arith in
+    let done : c.loop-turn.turn ≡ c.turns_tested-tested.result = omega arith in
+    turns_stopped c.args.around c.args.end c.args.name.now (seen_repeats c.args.repeats) c.args.choice.now c.args.count
+    c.turns_tested-tested.result c.loop-turn.turn c.operate.new.self c.turns_tested-tested.ensures all done
+    c.loop-turn.invariant c.in_ok-operate.ensures
 
 pub write_turns-returns-clause-ok : goal.write_turns-returns-clause-ok
 write_turns-returns-clause-ok t c =
-    let x = c.args.choice.now in
-    let repeats = seen_repeats c.args.repeats in
-    let tested = c.turns_tested-tested.result in
-    let done : c.loop-turn.turn ≡ tested = omega arith in
-    let written = subst (λ n. WritesSomeTurns c.args.self.now c.loop-turn.self c.args.around c.args.end c.args.name.now
-    repeats (choice_of x) n) done c.loop-turn.invariant in
     let named = c.in_ok-add_name-2.ensures in
-    turns_taken c.args.around c.args.end c.args.name.now repeats x.line (expression_of x.condition)
-    (process_of x.process) (choice_of x) c.args.count tested (meaning_of c.index_in-2.result) c.add_name-2.new.scope
-    (choice_seen x) c.turns_tested-tested.ensures c.if-tested-count.false c.index_in-2.ensures
-    (λ i. record { entries = named.ok i; blocks = named.extends.blocks i }) written c.in_ok-write_taken.ensures.ok
+    let done : c.loop-turn.turn ≡ c.turns_tested-tested.result = omega arith in
+    turns_taken c.args.around c.args.end c.args.name.now (seen_repeats c.args.repeats) c.args.choice.now c.args.count
+    c.turns_tested-tested.result c.loop-turn.turn (meaning_of c.index_in-2.result) c.add_name-2.new.scope
+    c.turns_tested-tested.ensures c.if-tested-count.false done c.index_in-2.ensures
+    (λ i. record { entries = named.ok i; blocks = named.extends.blocks i }) c.loop-turn.invariant
+    c.in_ok-write_taken.ensures.ok
 
 pub write_turns-returns-in_err-write_tested-clause-limit : goal.write_turns-returns-in_err-write_tested-clause-limit
 write_turns-returns-in_err-write_tested-clause-limit t c = λ e.
-    let x = c.args.choice.now in
     let named = c.in_ok-add_name.ensures in
     let fault = handed_on c.from_residual-in_err-write_tested.result c.in_err-write_tested.field-0.0 Limit
     c.from_residual-in_err-write_tested.ensures.1 e in
-    exceeds_turns c.args.around.limits c.args.around c.args.end c.args.name.now (seen_repeats c.args.repeats) x.line
-    (expression_of x.condition) (process_of x.process) (choice_of x) c.args.count c.turns_tested-tested.result
-    c.loop-turn.turn (meaning_of c.index_in.result) c.add_name.new.scope (choice_seen x) c.turns_tested-tested.ensures
-    (omega arith) c.index_in.ensures (λ i. record { entries = named.ok i; blocks = named.extends.blocks i })
-    c.loop-turn.invariant (c.in_err-write_tested.ensures.limit (ap Err fault))
+    exceeds_turns c.args.around.limits c.args.around c.args.end c.args.name.now (seen_repeats c.args.repeats)
+    c.args.choice.now c.args.count c.turns_tested-tested.result c.loop-turn.turn (meaning_of c.index_in.result)
+    c.add_name.new.scope c.turns_tested-tested.ensures (omega arith) c.index_in.ensures
+    (λ i. record { entries = named.ok i; blocks = named.extends.blocks i }) c.loop-turn.invariant
+    (c.in_err-write_tested.ensures.limit (ap Err fault))
 
 pub write_turns-returns-in_err-write_taken-clause-limit : goal.write_turns-returns-in_err-write_taken-clause-limit
 write_turns-returns-in_err-write_taken-clause-limit t c = λ e.
-    let x = c.args.choice.now in
-    let repeats = seen_repeats c.args.repeats in
-    let tested = c.turns_tested-tested.result in
-    let done : c.loop-turn.turn ≡ tested = omega arith in
-    let written = subst (λ n. WritesSomeTurns c.args.self.now c.loop-turn.self c.args.around c.args.end c.args.name.now
-    repeats (choice_of x) n) done c.loop-turn.invariant in
     let named = c.in_ok-add_name-2.ensures in
+    let done : c.loop-turn.turn ≡ c.turns_tested-tested.result = omega arith in
     let fault = handed_on c.from_residual-in_err-write_taken.result c.in_err-write_taken.field-0.0 Limit
     c.from_residual-in_err-write_taken.ensures.1 e in
-    exceeds_last_turn c.args.around.limits c.args.around c.args.end c.args.name.now repeats x.line
-    (expression_of x.condition) (process_of x.process) (choice_of x) c.args.count tested
-    (meaning_of c.index_in-2.result) c.add_name-2.new.scope (choice_seen x) c.turns_tested-tested.ensures
-    c.if-tested-count.false c.index_in-2.ensures
-    (λ i. record { entries = named.ok i; blocks = named.extends.blocks i }) written
+    exceeds_last_turn c.args.around.limits c.args.around c.args.end c.args.name.now (seen_repeats c.args.repeats)
+    c.args.choice.now c.args.count c.turns_tested-tested.result c.loop-turn.turn (meaning_of c.index_in-2.result)
+    c.add_name-2.new.scope c.turns_tested-tested.ensures c.if-tested-count.false done c.index_in-2.ensures
+    (λ i. record { entries = named.ok i; blocks = named.extends.blocks i }) c.loop-turn.invariant
     (c.in_err-write_taken.ensures.limit (ap Err fault))
 
 -- ---- what is invalid
 
-pub write_process-returns-in_err-write_construct-clause-invalid :
-    goal.write_process-returns-in_err-write_construct-clause-invalid
-write_process-returns-in_err-write_construct-clause-invalid t c = λ e sequential.
+pub write-returns-in_err-write_construct-clause-invalid :
+    goal.write-returns-in_err-write_construct-clause-invalid
+write-returns-in_err-write_construct-clause-invalid t c = λ e sequential.
     let p = c.args.process.now in
     let view : with_declarations (map declaration_of p.declarations.items)
     (Does p.line (construct_of p.construct.value)) ≡ process_of p = search (rules, the_lemmas) in

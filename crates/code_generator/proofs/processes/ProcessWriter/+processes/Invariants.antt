@@ -31,9 +31,6 @@ decreases-write_repeated_alt l = 16 * l.around.deeper + 13
 abbrev pub decreases-write : goal.decreases-write
 decreases-write l = 16 * l.around.deeper + 1
 
-abbrev pub decreases-write_process : goal.decreases-write_process
-decreases-write_process l = 16 * l.around.deeper
-
 abbrev pub decreases-write_tested : goal.decreases-write_tested
 decreases-write_tested l = 16 * l.around.deeper + 10
 
@@ -62,7 +59,7 @@ abbrev pub decreases-write_line : goal.decreases-write_line
 decreases-write_line l = 16 * l.around.deeper + 7
 
 abbrev pub decreases-write_loop : goal.decreases-write_loop
-decreases-write_loop l = 16 * l.around.deeper + 3
+decreases-write_loop l = 16 * l.around.deeper + 4
 
 abbrev pub decreases-write_one : goal.decreases-write_one
 decreases-write_one l = 16 * l.around.deeper + 2
@@ -87,6 +84,9 @@ decreases-write_replicated l = 16 * l.around.deeper + 14
 
 abbrev pub decreases-write_seq : goal.decreases-write_seq
 decreases-write_seq l = 16 * l.around.deeper + 3
+
+abbrev pub decreases-write_turning : goal.decreases-write_turning
+decreases-write_turning l = 16 * l.around.deeper + 3
 
 abbrev pub decreases-write_turns : goal.decreases-write_turns
 decreases-write_turns l = 16 * l.around.deeper + 12

@@ -1,11 +1,8 @@
-use Rattle.std.proofs.Common.{ap, sym, ◌∙◌}
+use Rattle.std.proofs.Common.{sym}
 use Rattle.std.proofs.lemmas.List.{append-nil}
 use Rattle.occam_parser.specs.OneOrMore.{as_list, one_or_more_of}
 use Rattle.occam_parser.specs.LineViews.{spelling_of}
-use Rattle.scalar_ranges.specs.Scopes.{entries_of}
-use Rattle.program_uses.specs.Declaring.{add_all}
-use Rattle.line_pieces.specs.Declarations.{with_names}
-use Rattle.line_pieces.specs.FrameViews.{frame_seen}
+use Rattle.code_generator.proofs.DeclarationsWritten.{names_placed}
 use Rattle.code_generator.proofs.processes.ProcessWriter.declare_channels.Goals as goal
 
 pub returns : goal.returns
@@ -14,14 +11,7 @@ returns c =
     let names = as_list (one_or_more_of spelling_of c.args.names.now.names) in
     record {
       code = sym (append-nil s.listing);
-      site = λ i. record {
-        frame = (c.in_ok-add_names.ensures
-            ∙ ap (λ n. with_names n names (frame_seen s.frame)) c.channels_in-count.ensures) i;
-        known = record {
-          entries = (c.in_ok-declare_names.ensures.entries
-              ∙ ap (λ m. add_all names m (entries_of s.scope)) c.channel_meaning-meaning.ensures) i;
-          blocks = c.in_ok-declare_names.ensures.blocks i;
-        };
-        label = s.label;
-      };
+      site = names_placed names s c.add_names.new.self c.declare_names.new.scope c.in_ok-add_names.ensures
+          c.channels_in-count.ensures c.in_ok-declare_names.ensures.entries c.channel_meaning-meaning.ensures
+          c.in_ok-declare_names.ensures.blocks;
     }

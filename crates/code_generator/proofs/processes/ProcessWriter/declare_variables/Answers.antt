@@ -2,12 +2,10 @@ use Rattle.std.proofs.Common.{◌++◌, Err, ap, subst, ◌∙◌}
 use Rattle.module_builder.specs.declared.fault.GenFault.TheVariants.{Limit}
 use Rattle.occam_parser.specs.OneOrMore.{as_list, one_or_more_of}
 use Rattle.occam_parser.specs.LineViews.{any_of, spelling_of}
-use Rattle.scalar_ranges.specs.Scopes.{entries_of}
-use Rattle.program_uses.specs.Declaring.{add_all}
 use Rattle.code_pieces.proofs.Faults.{handed_on}
-use Rattle.line_pieces.specs.Declarations.{with_names, zero_names}
-use Rattle.line_pieces.specs.FrameViews.{frame_seen}
+use Rattle.line_pieces.specs.Declarations.{zero_names}
 use Rattle.code_generator.specs.Written.{IsTooMuch}
+use Rattle.code_generator.proofs.DeclarationsWritten.{names_placed}
 use Rattle.code_generator.proofs.processes.ProcessWriter.declare_variables.Goals as goal
 
 pub returns-clause-ok : goal.returns-clause-ok
@@ -18,16 +16,9 @@ returns-clause-ok c =
     record {
       code = c.in_ok-clear_names.ensures.code
           ∙ ap (λ n. s.listing ++ zero_names size n names s.frame.top) c.words_in-count.ensures;
-      site = λ i. record {
-        frame = (c.in_ok-add_names.ensures
-            ∙ ap (λ n. with_names n names (frame_seen s.frame)) c.words_in-count.ensures) i;
-        known = record {
-          entries = (c.in_ok-declare_names.ensures.entries
-              ∙ ap (λ m. add_all names m (entries_of s.scope)) c.variable_meaning-meaning.ensures) i;
-          blocks = c.in_ok-declare_names.ensures.blocks i;
-        };
-        label = s.label;
-      };
+      site = names_placed names s c.add_names.new.self c.declare_names.new.scope c.in_ok-add_names.ensures
+          c.words_in-count.ensures c.in_ok-declare_names.ensures.entries c.variable_meaning-meaning.ensures
+          c.in_ok-declare_names.ensures.blocks;
     }
 
 pub returns-in_err-clear_names-clause-limit : goal.returns-in_err-clear_names-clause-limit

@@ -1,5 +1,5 @@
-use Rattle.std.proofs.Common.{◌≡◌, ◌+◌, ◌-◌, ◌∙◌, ℕ, List, drop, Err, ap, sym, arith, subst, get_or}
-use Rattle.std.proofs.lemmas.List.{drop-map, get_or_default}
+use Rattle.std.proofs.Common.{◌≡◌, ◌+◌, ◌-◌, ◌∙◌, ℕ, List, drop, Err, ap, sym, arith, subst}
+use Rattle.std.proofs.lemmas.List.{drop-map}
 use Rattle.code_pieces.specs.PieceViews.{piece_of, pieces_of}
 use Rattle.code_pieces.specs.Pieces.{Piece}
 use Rattle.code_pieces.specs.Numbers.{Needs, needs_of}
@@ -9,7 +9,7 @@ use Rattle.module_builder.specs.declared.fault.GenFault.TheVariants.{Limit, Inva
 use Rattle.code_pieces.proofs.Faults.{handed_on}
 use Rattle.code_pieces.proofs.NamedLabels.{piece_at}
 use Rattle.code_pieces.proofs.NeedsWithin.{AreWithinFrom, one_within}
-use Rattle.code_pieces.proofs.RestOfPieces.{needed_first}
+use Rattle.code_pieces.proofs.RestOfPieces.{is_reached}
 use Rattle.code_pieces.proofs.needs.Needs.of.Goals as goal
 
 pub loop-number-preserved : goal.loop-number-preserved
@@ -17,17 +17,13 @@ loop-number-preserved c =
     let pieces = c.args.pieces.now in
     let sizes = c.args.sizes.now in
     let i : ℕ = c.loop-number.number - 1 in
-    let size : ℕ = get_or sizes i 0 in
     let next : c.loop-number.number ≡ i + 1 = omega arith in
-    let before : IsKnown c.loop-number.needs (needs_of (pieces_of (drop (i + 1) pieces)) (drop (i + 1) sizes)) =
-    subst (λ k. IsKnown c.loop-number.needs (needs_of (pieces_of (drop k pieces)) (drop k sizes))) next
-    c.loop-number.invariant.known in
-    let step = needed_first pieces sizes i c.index-pieces-number.result size (omega arith) (omega arith)
-    c.index-pieces-number.is (get_or_default sizes i 0 size (omega arith)) in
+    let here = is_reached pieces sizes c.loop-number.number i c.index-pieces-number.result c.loop-number.needs next
+    (omega arith) (omega arith) c.index-pieces-number.is c.loop-number.invariant.known in
     let known : IsKnown c.enter.new.self (needs_of (pieces_of (drop i pieces)) (drop i sizes)) =
     subst (IsKnown c.enter.new.self)
-    (sym step ∙ ap (λ (qs : List Piece). needs_of qs (drop i sizes)) (drop-map piece_of i pieces))
-    (c.in_ok-enter.ensures.ok _ before) in
+    (sym here.step ∙ ap (λ (qs : List Piece). needs_of qs (drop i sizes)) (drop-map piece_of i pieces))
+    (c.in_ok-enter.ensures.ok _ here.known) in
     let need = c.in_ok-enter.ensures.within c.loop-number.invariant.need in
     let after = subst (λ (k : ℕ). AreWithinFrom k (pieces_of pieces) sizes) next c.loop-number.invariant.within in
     record {
@@ -39,21 +35,15 @@ loop-number-preserved c =
 
 pub returns-in_err-enter-clause-limit : goal.returns-in_err-enter-clause-limit
 returns-in_err-enter-clause-limit c = λ e within.
-    let pieces = c.args.pieces.now in
-    let sizes = c.args.sizes.now in
     let i : ℕ = c.loop-number.number - 1 in
-    let size : ℕ = get_or sizes i 0 in
-    let next : c.loop-number.number ≡ i + 1 = omega arith in
-    let known : IsKnown c.loop-number.needs (needs_of (pieces_of (drop (i + 1) pieces)) (drop (i + 1) sizes)) =
-    subst (λ k. IsKnown c.loop-number.needs (needs_of (pieces_of (drop k pieces)) (drop k sizes))) next
+    let here = is_reached c.args.pieces.now c.args.sizes.now c.loop-number.number i c.index-pieces-number.result
+    c.loop-number.needs (omega arith) (omega arith) (omega arith) c.index-pieces-number.is
     c.loop-number.invariant.known in
-    let step = needed_first pieces sizes i c.index-pieces-number.result size (omega arith) (omega arith)
-    c.index-pieces-number.is (get_or_default sizes i 0 size (omega arith)) in
     let limit = handed_on c.from_residual-in_err-enter.result c.in_err-enter.field-0.0 Limit
     c.from_residual-in_err-enter.ensures.1 e in
-    let above = c.in_err-enter.ensures.limit (ap Err limit) _ known in
+    let above = c.in_err-enter.ensures.limit (ap Err limit) _ here.known in
     let inside = within.each i in
-    absurd (omega (arith, ap (λ (n : Needs). n.need) step))
+    absurd (omega (arith, ap (λ (n : Needs). n.need) here.step))
 
 pub returns-in_err-enter-clause-invalid : goal.returns-in_err-enter-clause-invalid
 returns-in_err-enter-clause-invalid c = λ e named.

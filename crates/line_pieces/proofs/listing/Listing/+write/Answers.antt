@@ -1,15 +1,13 @@
-use Rattle.std.proofs.Common.{◌≡◌, ◌≤◌, length, map, option_map, arith, sym, ap, ◌∙◌, rules}
+use Rattle.std.proofs.Common.{◌≤◌, length, map, option_map, arith, sym, ap, ◌∙◌, rules}
 use Rattle.std.specs.Int.{w32}
 use Rattle.std.proofs.lemmas.Int.{to_z-of_z}
 use Rattle.std.proofs.lemmas.List.{append-nil}
-use Rattle.occam_parser.specs.declared.tree.Operation.{Chain}
-use Rattle.occam_parser.specs.Expressions.{Chained, Two}
-use Rattle.occam_parser.specs.Views.{operation_of, term_of, with_others}
+use Rattle.occam_parser.specs.Views.{operation_of, term_of}
 use Rattle.occam_parser.proofs.Seen.{view-Chain}
 use Rattle.scalar_ranges.specs.FrontViews.{seen_front}
 use Rattle.scalar_ranges.specs.Bounds.{exact_value}
 use Rattle.line_pieces.proofs.ChainCode.{others_next, others_done, front_known, front_pushed, chain_written_if}
-use Rattle.line_pieces.proofs.ChainCode.{first_last, first_below, second_added, both_joined}
+use Rattle.line_pieces.proofs.ChainCode.{first_last, first_below, second_added, both_joined, chain_seen}
 use Rattle.line_pieces.proofs.OffsetsFound.{first_written}
 use Rattle.line_pieces.proofs.OperandsBelow.{onto_written_if}
 use Rattle.line_pieces.proofs.listing.Listing.+write.Goals as goal
@@ -17,42 +15,28 @@ use Rattle.line_pieces.proofs.listing.Listing.+write.Goals as goal
 pub write_operation-returns-in_ok-constant-in-Some : goal.write_operation-returns-in_ok-constant-in-Some
 write_operation-returns-in_ok-constant-in-Some t c =
     let chain = c.in-Chain in
-    let s = c.args.setting in
     let front = option_map seen_front c.args.front in
-    let first = term_of chain.first in
-    let second = term_of chain.second in
-    let others = map term_of c.deref.result.now in
-    let view : operation_of c.args.operation.now
-    ≡ operation_of (Chain chain.operator chain.first chain.second chain.others) = ap operation_of chain.is in
-    let whole = view ∙ view-Chain chain.operator chain.first chain.second chain.others
-    ∙ ap (λ os. Chained chain.operator (with_others (Two first second) (map term_of os)))
-    (sym c.deref.ensures.value) in
-    chain_written_if c.write_others.result s chain.operator front first second others
-    (operation_of c.args.operation.now)
-    c.args.self.now c.constant.new.self c.write_others.new.self whole c.requires.varies c.requires.front
-    (front_known s chain.operator front first second c.covered.result c.in-Some.value c.args.self.now
-    c.constant.new.self c.covered.ensures c.in-Some.is (search rules))
+    chain_written_if c.write_others.result c.args.setting chain.operator front (term_of chain.first)
+    (term_of chain.second) (map term_of c.deref.result.now) (operation_of c.args.operation.now) c.args.self.now
+    c.constant.new.self c.write_others.new.self
+    (chain_seen c.args.operation.now chain.operator chain.first chain.second chain.others c.deref.result.now chain.is
+    c.deref.ensures.value) c.requires.varies c.requires.front
+    (front_known c.args.setting chain.operator front (term_of chain.first) (term_of chain.second) c.covered.result
+    c.in-Some.value c.args.self.now c.constant.new.self c.covered.ensures c.in-Some.is (search rules))
     c.write_others.ensures
 
 pub write_operation-returns-in_ok-write_first_two-in-None : goal.write_operation-returns-in_ok-write_first_two-in-None
 write_operation-returns-in_ok-write_first_two-in-None t c =
     let chain = c.in-Chain in
-    let s = c.args.setting in
-    let front = option_map seen_front c.args.front in
-    let first = term_of chain.first in
-    let second = term_of chain.second in
-    let others = map term_of c.deref-in-None.result.now in
-    let view : operation_of c.args.operation.now
-    ≡ operation_of (Chain chain.operator chain.first chain.second chain.others) = ap operation_of chain.is in
-    let whole = view ∙ view-Chain chain.operator chain.first chain.second chain.others
-    ∙ ap (λ os. Chained chain.operator (with_others (Two first second) (map term_of os)))
-    (sym c.deref-in-None.ensures.value) in
-    chain_written_if c.write_others-in-None.result s chain.operator front first second others
-    (operation_of c.args.operation.now)
+    let shown = c.deref-in-None.result.now in
+    let whole = chain_seen c.args.operation.now chain.operator chain.first chain.second chain.others shown chain.is
+    c.deref-in-None.ensures.value in
+    chain_written_if c.write_others-in-None.result c.args.setting chain.operator (option_map seen_front c.args.front)
+    (term_of chain.first) (term_of chain.second) (map term_of shown) (operation_of c.args.operation.now)
     c.args.self.now c.write_first_two.new.self c.write_others-in-None.new.self whole c.requires.varies c.requires.front
-    (front_pushed s chain.operator front first second others (operation_of c.args.operation.now) c.covered.result
-    c.args.self.now c.write_first_two.new.self c.covered.ensures c.in-None.is whole
-    c.in_ok-write_first_two-in-None.ensures)
+    (front_pushed c.args.setting chain.operator (option_map seen_front c.args.front) (term_of chain.first)
+    (term_of chain.second) (map term_of shown) (operation_of c.args.operation.now) c.covered.result c.args.self.now
+    c.write_first_two.new.self c.covered.ensures c.in-None.is whole c.in_ok-write_first_two-in-None.ensures)
     c.write_others-in-None.ensures
 
 pub write_either-returns-then-comes_last : goal.write_either-returns-then-comes_last

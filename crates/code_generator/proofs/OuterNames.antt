@@ -8,6 +8,7 @@ use Rattle.occam_parser.specs.Expressions.{Expression}
 use Rattle.occam_parser.specs.Lines as lines
 use Rattle.occam_parser.specs.Lines.{Value, Declaration}
 use Rattle.occam_parser.specs.Blocks.{Procedure}
+use Rattle.occam_parser.specs.OneOrMore.{as_list}
 use Rattle.scalar_ranges.specs.declared.scope.ArrayKind.TheVariants as array
 use Rattle.scalar_ranges.specs.Entries.{Meaning, Scalar, Array, Entry, type_range}
 use Rattle.scalar_ranges.specs.Moves.{Block, Known, outermost, begun_with, widen, excluded, exclude_from, begin_loop}
@@ -39,22 +40,25 @@ IsStill m = Unit {0}
 abbrev pub AreStill : List Entry → Type 0
 AreStill es = AllByRecursion (λ e. IsStill e.meaning) es
 
-table_still : (type : ValueType) (size : Option ℕ) (count : ℕ) (range : Option Ends)
-    → IsStill (table_of type size count range)
-table_still type None count range = tt
-table_still type (Some n) count None = tt
-table_still type (Some n) count (Some range) = by_count (nat_eq n count)
+-- what holds of each table holds of what a table means
+table_is : (P : Meaning → Type 0)
+    → ((type : ValueType) (size : Option ℕ) (range : Ends) → P (Array array.Table type size range))
+    → (type : ValueType) (size : Option ℕ) (count : ℕ) (range : Option Ends) → P (table_of type size count range)
+table_is P tables type None count range = tables type None (type_range type)
+table_is P tables type (Some n) count None = tables type None (type_range type)
+table_is P tables type (Some n) count (Some range) = by_count (nat_eq n count)
   where
-    by_count : (t : Bool) → IsStill
+    by_count : (t : Bool) → P
         (cond t (Array array.Table type (Some n) range) (Array array.Table type None (type_range type)))
-    by_count true = tt
-    by_count false = tt
+    by_count true = tables type (Some n) range
+    by_count false = tables type None (type_range type)
 
 pub constant_still : (es : List Entry) (type : ValueType) (value : Value) → IsStill (constant_meaning es type value)
 constant_still es type (lines.Scalar e) = tt
-constant_still es type (lines.Table size items) = table_still type (size_in es size) _ (range_of_items es type items)
+constant_still es type (lines.Table size items) =
+    table_is IsStill (λ t s r. tt) type (size_in es size) (length (as_list items)) (range_of_items es type items)
 constant_still es type (lines.Bytes size bytes) =
-    table_still type (size_in es size) (length bytes) (range_of_bytes type bytes)
+    table_is IsStill (λ t s r. tt) type (size_in es size) (length bytes) (range_of_bytes type bytes)
 
 -- what is no scalar is the same where it is within
 still_within : (free : Bool) (m n : Meaning) → IsStill n → MeaningWithin free m n → m ≡ n

@@ -1,15 +1,16 @@
 -- Code that is put together of parts which have some has some.
-use Rattle.std.proofs.Common.{◌≡◌, ℕ, zero, suc, ◌+◌, ◌<◌, ℤ, pos, negsuc, Bool, true, false, cond, List, [], ◌∷◌, ◌++◌}
-use Rattle.std.proofs.Common.{Option, Some, None, refl, arith}
+use Rattle.std.proofs.Common.{◌≡◌, ℕ, zero, suc, ◌+◌, ◌<◌, ℤ, pos, negsuc, Bool, true, false, List, [], ◌∷◌, ◌++◌}
+use Rattle.std.proofs.Common.{Option, Some, None, refl}
 use Rattle.scalar_ranges.specs.Moves.{Known}
 use Rattle.code_pieces.specs.Pieces.{Piece, Jump, Code, before, then_code, closed_by}
 use Rattle.line_pieces.specs.Actions.{test_code}
 use Rattle.line_pieces.specs.Declarations.{Frame}
-use Rattle.code_generator.specs.Processes.{Site, row_of, is_true, PlacedChoice, PlacedChoices, NoChoice}
+use Rattle.code_generator.specs.Processes.{Site, row_of, PlacedChoice, PlacedChoices, NoChoice}
 use Rattle.code_generator.specs.Processes.{ThenChoice, IfEnding, Stops, Always, Opens, EndedChoices, taken_code}
-use Rattle.code_generator.specs.Processes.{tested_code, all_tested, ending_code, choices_code, with_ending, opening}
+use Rattle.code_generator.specs.Processes.{tested_code, all_tested, ending_code, choices_code, with_ending}
 use Rattle.code_generator.specs.Processes.{if_code, loop_start, loop_end, loop_code, has_scalar, no_loop}
-use Rattle.code_generator.specs.Processes.{repeated_seq, in_each_turn}
+use Rattle.code_generator.specs.Processes.{repeated_seq, in_each_turn, with_opening}
+use Rattle.code_generator.proofs.EachChoice.{AllAre, EndingIs, EachIs, ending_each, opening_each, turns_each}
 
 abbrev pub HasCode : Option Code → Type 0
 HasCode None = ⊥
@@ -39,36 +40,6 @@ then_has (Some c) next h all = before_has c.pieces (next c.labels) (all c.labels
 abbrev pub HasProcess : PlacedChoice → Type 0
 HasProcess c = (f : Frame) (label : ℕ) → HasCode (taken_code f c label)
 
-abbrev pub AllHave : PlacedChoices → Type 0
-AllHave NoChoice = Unit {0}
-AllHave (ThenChoice cs c) = AllHave cs × HasProcess c
-
-abbrev pub EndingHas : IfEnding → Type 0
-EndingHas Stops = Unit {0}
-EndingHas (Always c) = HasProcess c
-EndingHas (Opens c) = HasProcess c
-
-abbrev pub ChoicesHave : EndedChoices → Type 0
-ChoicesHave x = AllHave x.tested × EndingHas x.ending
-
-pub ending_has : (cs : PlacedChoices) → AllHave cs → ChoicesHave (with_ending cs)
-ending_has NoChoice all = (tt, tt)
-ending_has (ThenChoice cs c) all = by_truth (is_true c.condition)
-  where
-    by_truth : (holds : Bool) → ChoicesHave (cond holds (record { tested = cs; ending = Always c })
-        (record { tested = ThenChoice cs c; ending = Stops }))
-    by_truth true = (all.0, all.1)
-    by_truth false = (all, tt)
-
-pub opening_has : (cs : PlacedChoices) (x : IfEnding) → AllHave cs → EndingHas x → ChoicesHave (opening cs x)
-opening_has (ThenChoice cs opened) (Always c) all last = by_skip c.is_skip
-  where
-    by_skip : (skips : Bool) → ChoicesHave (cond skips (record { tested = cs; ending = Opens opened })
-        (record { tested = ThenChoice cs opened; ending = Always c }))
-    by_skip true = (all.0, all.1)
-    by_skip false = (all, last)
-opening_has cs x all last = (all, last)
-
 tested_has : (end : ℕ) (f : Frame) (c : PlacedChoice) (label : ℕ) → HasProcess c
     → HasCode (tested_code end f c label)
 tested_has end f c label h =
@@ -77,31 +48,53 @@ tested_has end f c label h =
     before_has (test_code f.homes c.known.entries f.top c.condition label) (closed_by behind process)
     (closed_has behind process (h f (label + 1)))
 
-all_tested_have : (end : ℕ) (f : Frame) (cs : PlacedChoices) (label : ℕ) → AllHave cs
+all_tested_have : (end : ℕ) (f : Frame) (cs : PlacedChoices) (label : ℕ) → AllAre HasProcess cs
     → HasCode (all_tested end f cs label)
 all_tested_have end f NoChoice label all = tt
 all_tested_have end f (ThenChoice cs c) label all =
     then_has (all_tested end f cs label) (tested_code end f c) (all_tested_have end f cs label all.0)
     (λ label. tested_has end f c label all.1)
 
-what_ends_has : (end : ℕ) (f : Frame) (x : IfEnding) (label : ℕ) → EndingHas x → HasCode (ending_code end f x label)
+what_ends_has : (end : ℕ) (f : Frame) (x : IfEnding) (label : ℕ) → EndingIs HasProcess x
+    → HasCode (ending_code end f x label)
 what_ends_has end f Stops label h = tt
 what_ends_has end f (Always c) label h = h f label
 what_ends_has end f (Opens c) label h =
     before_has (test_code f.homes c.known.entries f.top c.condition end) (taken_code f c label) (h f label)
 
-pub if_has : (s : Site) (f : Frame) (after : Known) (x : EndedChoices) → ChoicesHave x → HasCode (if_code s f after x)
+pub if_has : (s : Site) (f : Frame) (after : Known) (x : EndedChoices) → EachIs HasProcess x
+    → HasCode (if_code s f after x)
 if_has s f after x all =
     closed_has (row_of s.label s.frame after ∷ []) (choices_code s.label f x (s.label + 1))
     (then_has (all_tested s.label f x.tested (s.label + 1)) (ending_code s.label f x.ending)
     (all_tested_have s.label f x.tested (s.label + 1) all.0) (λ label. what_ends_has s.label f x.ending label all.1))
 
-pub turns_have : (choice : ℕ → PlacedChoice) (count : ℕ) → ((n : ℕ) → n < count → HasProcess (choice n))
-    → AllHave (in_each_turn choice count)
-turns_have choice zero all = tt
-turns_have choice (suc n) all = (turns_have choice n (λ m less. all m (omega (arith, less))), all n (omega arith))
+-- the same, with all choices that can be in the ending there
+pub opened_if_has : (s : Site) (f : Frame) (after : Known) (cs : PlacedChoices) → AllAre HasProcess cs
+    → HasCode (if_code s f after (with_opening (with_ending cs)))
+opened_if_has s f after cs all =
+    let each = ending_each HasProcess cs all in
+    if_has s f after (with_opening (with_ending cs))
+    (opening_each HasProcess (with_ending cs).tested (with_ending cs).ending each.0 each.1)
+
+-- a choice under a replicator
+pub repeated_if_has : (s : Site) (f : Frame) (after : Known) (choice : ℕ → PlacedChoice) (count : ℕ)
+    → ((n : ℕ) → n < count → HasProcess (choice n))
+    → HasCode (if_code s f after (with_ending (in_each_turn choice count)))
+repeated_if_has s f after choice count all =
+    let turns = in_each_turn choice count in
+    if_has s f after (with_ending turns)
+    (ending_each HasProcess turns (turns_each HasProcess choice count all))
 
 -- ---- loops
+
+-- A replicator over a SEQ has the code of its loop, or that of no turn.
+pub repeated_is : (P : Option Code → Type 0) (s : Site) (changed : List ℕ) (after : Known) (base : ℤ)
+    (loop : Option Code) (count : ℤ) → P (no_loop (has_scalar changed s.known.entries) s after) → P loop
+    → P (repeated_seq s changed after base loop count)
+repeated_is P s changed after base loop (pos zero) none h = none
+repeated_is P s changed after base loop (pos (suc n)) none h = h
+repeated_is P s changed after base loop (negsuc n) none h = h
 
 no_loop_has : (changes : Bool) (s : Site) (after : Known) → HasCode (no_loop changes s after)
 no_loop_has false s after = tt
@@ -109,9 +102,8 @@ no_loop_has true s after = tt
 
 pub repeated_has : (s : Site) (changed : List ℕ) (after : Known) (base : ℤ) (loop : Option Code) (count : ℤ)
     → HasCode loop → HasCode (repeated_seq s changed after base loop count)
-repeated_has s changed after base loop (pos zero) h = no_loop_has (has_scalar changed s.known.entries) s after
-repeated_has s changed after base loop (pos (suc n)) h = h
-repeated_has s changed after base loop (negsuc n) h = h
+repeated_has s changed after base loop count h =
+    repeated_is HasCode s changed after base loop count (no_loop_has (has_scalar changed s.known.entries) s after) h
 
 pub loop_has : (s inner : Site) (after : Known) (base count : ℤ) (body : Option Code) → HasCode body
     → HasCode (loop_code s inner after base count body)
