@@ -32,6 +32,14 @@ context_name first n =
 abbrev pub context_text : Contents → ℕ → Text
 context_text m n = context_name (first_branch m) n
 
+-- a context of this name that is entered at an offset
+unfoldable pub entered_text : Text → ℕ → Text
+entered_text name entry = six_digits entry ++ (codes " " ++ (name ++ codes ": "))
+
+-- its line, which goes on with this
+abbrev pub context_line : Contents → ℕ → ℕ → Text → Text
+context_line m context entry rest = entered_text (context_text m context) entry ++ (rest ++ 10 ∷ [])
+
 -- ---- labels
 
 abbrev pub is_unknown : Fact → Bool
@@ -81,13 +89,16 @@ abbrev pub parameter_text : Parameter → Text
 parameter_text p = codes "; parameter in word " ++ (decimal p.word ++ (codes ": " ++ kind_text p.kind))
 
 -- the frame has the words from lo up to hi
-unfoldable pub procedure_head : Contents → ℕ → Procedure → Text
-procedure_head m context p =
-    six_digits p.entry ++ (codes " " ++ (context_text m context ++ (codes ": frame from " ++ (signed_decimal p.lo
-    ++ (codes " up to " ++ (signed_decimal p.hi ++ (codes ", number " ++ decimal p.number)))))))
+unfoldable pub frame_and_number : Procedure → Text
+frame_and_number p =
+    codes "frame from " ++ (signed_decimal p.lo ++ (codes " up to " ++ (signed_decimal p.hi
+    ++ (codes ", number " ++ decimal p.number))))
+
+abbrev pub procedure_rest : Procedure → Text
+procedure_rest p = frame_and_number p ++ flat_map parameter_text p.parameters
 
 abbrev pub procedure_text : Contents → ℕ → Procedure → Text
-procedure_text m context p = procedure_head m context p ++ (flat_map parameter_text p.parameters ++ 10 ∷ [])
+procedure_text m context p = context_line m context p.entry (procedure_rest p)
 
 -- ---- branches
 
@@ -128,10 +139,8 @@ gifts_text b =
     ++ (list_part (codes "; reads parameters") number_text b.read_parameters
     ++ list_part (codes "; ends") end_text b.ends)))
 
-unfoldable pub branch_head : Contents → ℕ → Branch → Text
-branch_head m context b =
-    six_digits b.entry
-    ++ (codes " " ++ (context_text m context ++ (codes ": workspace " ++ signed_decimal b.workspace)))
+abbrev pub branch_rest : Branch → Text
+branch_rest b = codes "workspace " ++ (signed_decimal b.workspace ++ gifts_text b)
 
 abbrev pub branch_text : Contents → ℕ → Branch → Text
-branch_text m context b = branch_head m context b ++ (gifts_text b ++ 10 ∷ [])
+branch_text m context b = context_line m context b.entry (branch_rest b)

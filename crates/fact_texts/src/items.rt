@@ -56,52 +56,27 @@ fn ends_text(ends: Ends) -> &'static str
     }
 }
 
-/// The region that a parameter names.
-#[derive(Clone, Copy)]
-struct RegionOfText {
-    size: u32,
-    lo: i32,
-    hi: i32,
-}
-
-impl fmt::Display for RegionOfText {
-    ghost use Rattle.fact_texts.specs.RowTexts.{bytes_text};
-
-    ghost output = { λ region. Some (bytes_text region.size region.lo region.hi) };
-
-    fn fmt<W: fmt::Write>(&self, f: &mut fmt::Formatter<W>) -> fmt::Result {
-        let RegionOfText { size, lo, hi } = *self;
-        let words = range(lo, hi);
-        write!(f, "{size} bytes of {words}")
-    }
-}
-
-/// What a parameter is.
-#[derive(Clone, Copy)]
-struct KindText(ParameterKind);
-
-impl fmt::Display for KindText {
-    ghost output = { λ kind. Some (kind_text kind.0) };
-
-    fn fmt<W: fmt::Write>(&self, f: &mut fmt::Formatter<W>) -> fmt::Result {
-        match self.0 {
-            ParameterKind::Value { lo, hi } => write!(f, "{}", range(lo, hi)),
-            ParameterKind::ReadRegion { size, lo, hi } => write!(
-                f,
-                "reads {}",
-                RegionOfText { size, lo, hi }
-            ),
-            ParameterKind::WrittenRegion { size, lo, hi } => write!(
-                f,
-                "writes {}",
-                RegionOfText { size, lo, hi }
-            ),
-            ParameterKind::Channels {
-                count,
-                length,
-                ends,
-            } => write!(f, "{count} channels {} of {length} bytes", ends_text(ends)),
+/// Appends what a parameter is.
+fn push_kind(text: &mut String, kind: ParameterKind) -> Result<(), AllocError>
+    ensures { OnOk result (string_bytes text.new ≡ string_bytes text.old ++ kind_text kind) }
+{
+    match kind {
+        ParameterKind::Value { lo, hi } => write!(text, "{}", range(lo, hi)),
+        ParameterKind::ReadRegion { size, lo, hi } => {
+            write!(text, "reads {size} bytes of {}", range(lo, hi))
         }
+        ParameterKind::WrittenRegion { size, lo, hi } => {
+            write!(text, "writes {size} bytes of {}", range(lo, hi))
+        }
+        ParameterKind::Channels {
+            count,
+            length,
+            ends,
+        } => write!(
+            text,
+            "{count} channels {} of {length} bytes",
+            ends_text(ends)
+        ),
     }
 }
 
@@ -111,12 +86,8 @@ impl Item for Parameter {
     ghost text_of = { parameter_text };
 
     fn push(self, text: &mut String) -> Result<(), AllocError> {
-        write!(
-            text,
-            "; parameter in word {}: {}",
-            self.word,
-            KindText(self.kind)
-        )
+        write!(text, "; parameter in word {}: ", self.word)?;
+        push_kind(text, self.kind)
     }
 }
 

@@ -7,4 +7,4 @@ mod rows;
 
 pub use facts::{FactText, LoopText, RangeText, range};
 pub use items::ChannelText;
-pub use rows::{ContextText, context_text, is_unknown, push_branch, push_label, push_procedure};
+pub use rows::{ContextRow, ContextText, context_text, is_unknown, push_context_row, push_label};

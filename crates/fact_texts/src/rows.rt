@@ -2,9 +2,10 @@
 
 ghost use Rattle.std.specs.Prelude.{◌≡◌, ◌++◌, OnOk, Some, string_bytes};
 ghost use Rattle.module_format.specs.Contents.{branch_of, contents_of, label_of, procedure_of};
-ghost use Rattle.fact_texts.specs.RowTexts.{branch_text, context_name, context_text, label_text, procedure_text};
-ghost use Rattle.fact_texts.specs.RowTexts.{registers_text, is_unknown, label_head, procedure_head, branch_head};
-ghost use Rattle.fact_texts.specs.RowTexts.{gifts_text, list_text, list_part};
+ghost use Rattle.fact_texts.specs.Texts.{Text};
+ghost use Rattle.fact_texts.specs.RowTexts.{context_name, context_text, registers_text, is_unknown, label_head};
+ghost use Rattle.fact_texts.specs.RowTexts.{label_text, gifts_text, list_text, list_part, entered_text};
+ghost use Rattle.fact_texts.specs.RowTexts.{context_line, frame_and_number, procedure_rest, branch_rest};
 
 use crate::facts::FactText;
 use crate::items::{Item, push_items};
@@ -126,47 +127,6 @@ pub fn push_label(text: &mut String, tables: &Tables<'_>, row: &LabelRow) -> Res
     Ok(())
 }
 
-/// Appends what a line says of a procedure before its parameters.
-#[tactic(auto, using(crate::proofs::SixDigits::six_digits_written), unfolding(crate::specs::RowTexts::procedure_head))]
-fn push_procedure_head(
-    text: &mut String,
-    tables: &Tables<'_>,
-    context: u32,
-    row: &ProcedureRow,
-) -> Result<(), AllocError>
-    ensures { OnOk result (string_bytes text.new
-        ≡ string_bytes text.old ++ procedure_head (contents_of tables.now) context (procedure_of row.now)) }
-{
-    let context = context_text(tables, context);
-    let ProcedureRow {
-        entry,
-        lo,
-        hi,
-        number,
-        ..
-    } = *row;
-    write!(
-        text,
-        "{entry:06} {context}: frame from {lo} up to {hi}, number {number}"
-    )
-}
-
-/// Appends the line of a procedure, whose number as a context is given.
-pub fn push_procedure(
-    text: &mut String,
-    tables: &Tables<'_>,
-    context: u32,
-    row: &ProcedureRow,
-) -> Result<(), AllocError>
-    ensures { OnOk result (string_bytes text.new
-        ≡ string_bytes text.old ++ procedure_text (contents_of tables.now) context (procedure_of row.now)) }
-{
-    push_procedure_head(text, tables, context, row)?;
-    push_items(text, &row.parameters)?;
-    text.push_str("\n")?;
-    Ok(())
-}
-
 /// Appends a list, after the words for it.
 #[tactic(auto, unfolding(crate::specs::RowTexts::list_text))]
 fn push_some<T: Item>(text: &mut String, words: &str, items: &[T]) -> Result<(), AllocError>
@@ -200,38 +160,67 @@ fn push_gifts(text: &mut String, row: &BranchRow) -> Result<(), AllocError>
     Ok(())
 }
 
-/// Appends what a line says of a branch before what it is given.
-#[tactic(auto, using(crate::proofs::SixDigits::six_digits_written), unfolding(crate::specs::RowTexts::branch_head))]
-fn push_branch_head(
-    text: &mut String,
-    tables: &Tables<'_>,
-    context: u32,
-    row: &BranchRow,
-) -> Result<(), AllocError>
-    ensures { OnOk result (string_bytes text.new
-        ≡ string_bytes text.old ++ branch_head (contents_of tables.now) context (branch_of row.now)) }
+/// Appends what the line of a context begins with: the offset at which it is entered, and its name.
+#[tactic(auto, using(crate::proofs::SixDigits::six_digits_written), unfolding(crate::specs::RowTexts::entered_text))]
+fn push_entered(text: &mut String, context: ContextText, entry: u32) -> Result<(), AllocError>
+    ensures { let name = context_name context.first_branch context.number in
+        OnOk result (string_bytes text.new ≡ string_bytes text.old ++ entered_text name entry) }
 {
-    let context = context_text(tables, context);
-    let BranchRow {
-        entry,
-        workspace,
-        ..
-    } = *row;
-    write!(text, "{entry:06} {context}: workspace {workspace}")
+    write!(text, "{entry:06} {context}: ")
 }
 
-/// Appends the line of a branch, whose number as a context is given.
-pub fn push_branch(
+/// A row of a context: of a procedure, or of a branch.
+pub trait ContextRow {
+    ghost rest_of: { Self → Text };
+
+    /// Appends what its line says after the offset at which the context is entered, and its name.
+    fn push_rest(&self, text: &mut String) -> Result<(), AllocError>
+        ensures { OnOk result (string_bytes text.new ≡ string_bytes text.old ++ rest_of self.now) };
+}
+
+/// Appends the line of a procedure or a branch, by the number of its context and the offset at which that is entered.
+pub fn push_context_row<R: ContextRow>(
     text: &mut String,
     tables: &Tables<'_>,
     context: u32,
-    row: &BranchRow,
+    entry: u32,
+    row: &R,
 ) -> Result<(), AllocError>
-    ensures { OnOk result (string_bytes text.new
-        ≡ string_bytes text.old ++ branch_text (contents_of tables.now) context (branch_of row.now)) }
+    ensures { OnOk result (string_bytes text.new ≡ string_bytes text.old
+        ++ context_line (contents_of tables.now) context entry (R.rest_of row.now)) }
 {
-    push_branch_head(text, tables, context, row)?;
-    push_gifts(text, row)?;
+    push_entered(text, context_text(tables, context), entry)?;
+    row.push_rest(text)?;
     text.push_str("\n")?;
     Ok(())
+}
+
+/// Appends the bounds of a procedure's frame, and its number.
+#[tactic(auto, unfolding(crate::specs::RowTexts::frame_and_number))]
+fn push_frame_and_number(text: &mut String, row: &ProcedureRow) -> Result<(), AllocError>
+    ensures { OnOk result (string_bytes text.new
+        ≡ string_bytes text.old ++ frame_and_number (procedure_of row.now)) }
+{
+    let ProcedureRow { lo, hi, number, .. } = *row;
+    write!(text, "frame from {lo} up to {hi}, number {number}")
+}
+
+impl ContextRow for ProcedureRow {
+    ghost rest_of = { λ row. procedure_rest (procedure_of row) };
+
+    fn push_rest(&self, text: &mut String) -> Result<(), AllocError> {
+        push_frame_and_number(text, self)?;
+        push_items(text, &self.parameters)?;
+        Ok(())
+    }
+}
+
+impl ContextRow for BranchRow {
+    ghost rest_of = { λ row. branch_rest (branch_of row) };
+
+    fn push_rest(&self, text: &mut String) -> Result<(), AllocError> {
+        write!(text, "workspace {}", self.workspace)?;
+        push_gifts(text, self)?;
+        Ok(())
+    }
 }

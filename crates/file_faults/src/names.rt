@@ -1,4 +1,5 @@
 //! A field of a file by its place and its name, with what it has.
+#![tactic(auto, unfolding(crate::specs::Names::item_text, crate::specs::Names::place_text))]
 
 ghost use Rattle.std.specs.Prelude.{◌≡◌, ◌++◌, OnOk, string_bytes};
 ghost use Rattle.file_faults.specs.Names.{item_of, item_text, place_text, register_name, signed_of, value_text};
@@ -26,7 +27,6 @@ fn register_name(number: u64) -> &'static str
 }
 
 /// Appends the one of a group that is here, by its number.
-#[tactic(auto, unfolding(crate::specs::Names::item_text))]
 fn push_item(text: &mut String, walk: Walk, group: Group) -> Result<(), AllocError>
     ensures { OnOk result (string_bytes text.new ≡ string_bytes text.old ++ item_text walk group) }
 {
@@ -42,7 +42,6 @@ fn push_item(text: &mut String, walk: Walk, group: Group) -> Result<(), AllocErr
 }
 
 /// Appends the row, the branch and the item of a field of a group.
-#[tactic(auto, unfolding(crate::specs::Names::place_text))]
 pub(crate) fn push_place(text: &mut String, walk: Walk) -> Result<(), AllocError>
     ensures { OnOk result (string_bytes text.new ≡ string_bytes text.old ++ place_text walk) }
 {

@@ -1,4 +1,5 @@
 //! Why a file is no module.
+#![tactic(auto, unfolding(crate::proofs::Opening::reasons_opens))]
 
 ghost use Rattle.std.specs.Prelude.{◌≡◌, ◌++◌, OnOk, string_bytes};
 ghost use Rattle.file_faults.specs.FileFaults.{ended_text, field_text, file_fault, has_text, left_text, limit_of};
@@ -36,7 +37,6 @@ fn limit_of(is_two: bool, role: Role) -> u64
 }
 
 /// The words of a fault by its number, which stand before, after or without its field.
-#[tactic(auto, unfolding(crate::specs::FileFaults::words_of))]
 fn words_of(number: u8) -> &'static str
     ensures { result.now ≡ words_of number }
 {
@@ -50,7 +50,6 @@ fn words_of(number: u8) -> &'static str
 }
 
 /// Appends a field by its place and its name.
-#[tactic(auto, unfolding(crate::specs::FileFaults::field_text))]
 fn push_field(text: &mut String, walk: Walk) -> Result<(), AllocError>
     ensures { OnOk result (string_bytes text.new ≡ string_bytes text.old ++ field_text walk) }
 {
@@ -59,7 +58,6 @@ fn push_field(text: &mut String, walk: Walk) -> Result<(), AllocError>
 }
 
 /// Appends the same, and what it has.
-#[tactic(auto, unfolding(crate::specs::FileFaults::has_text))]
 fn push_has(text: &mut String, walk: Walk, value: u64) -> Result<(), AllocError>
     ensures { OnOk result (string_bytes text.new ≡ string_bytes text.old ++ has_text walk value) }
 {
@@ -69,7 +67,6 @@ fn push_has(text: &mut String, walk: Walk, value: u64) -> Result<(), AllocError>
 }
 
 /// Appends in which field a file ends.
-#[tactic(auto, unfolding(crate::specs::FileFaults::ended_text))]
 fn push_ended(text: &mut String, walk: Walk) -> Result<(), AllocError>
     ensures { OnOk result (string_bytes text.new ≡ string_bytes text.old ++ ended_text walk) }
 {
@@ -78,7 +75,6 @@ fn push_ended(text: &mut String, walk: Walk) -> Result<(), AllocError>
 }
 
 /// Appends which field does not come after what is before it.
-#[tactic(auto, unfolding(crate::specs::FileFaults::order_text))]
 fn push_order(text: &mut String, walk: Walk, value: u64) -> Result<(), AllocError>
     ensures { OnOk result (string_bytes text.new ≡ string_bytes text.old ++ order_text walk value) }
 {
@@ -87,7 +83,6 @@ fn push_order(text: &mut String, walk: Walk, value: u64) -> Result<(), AllocErro
 }
 
 /// Appends how large the code or the data area is, if a number has to be within it.
-#[tactic(auto, unfolding(crate::specs::FileFaults::size_text))]
 fn push_size(text: &mut String, role: Role, code: u64, words: u64) -> Result<(), AllocError>
     ensures { OnOk result (string_bytes text.new ≡ string_bytes text.old ++ size_text role code words) }
 {
@@ -99,7 +94,6 @@ fn push_size(text: &mut String, role: Role, code: u64, words: u64) -> Result<(),
 }
 
 /// Appends which field has a value that may not be there, and what is wanted of it.
-#[tactic(auto, unfolding(crate::specs::FileFaults::range_text))]
 fn push_range(text: &mut String, walk: Walk, value: u64) -> Result<(), AllocError>
     ensures { OnOk result (string_bytes text.new ≡ string_bytes text.old ++ range_text walk value) }
 {
@@ -122,7 +116,6 @@ fn push_limit(text: &mut String, walk: Walk, value: u64) -> Result<(), AllocErro
 }
 
 /// Appends how many bytes come after the last row.
-#[tactic(auto, unfolding(crate::specs::FileFaults::left_text))]
 fn push_left(text: &mut String, count: usize) -> Result<(), AllocError>
     ensures { OnOk result (string_bytes text.new ≡ string_bytes text.old ++ left_text count) }
 {
@@ -130,7 +123,6 @@ fn push_left(text: &mut String, count: usize) -> Result<(), AllocError>
 }
 
 /// Appends why a file is no module, by the number of its fault, at the field that was found.
-#[tactic(auto, unfolding(crate::specs::FileFaults::why))]
 fn push_why(
     text: &mut String,
     bytes: &[u8],

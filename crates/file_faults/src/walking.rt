@@ -1,4 +1,5 @@
 //! The field of a file that has an offset, or in which the file ends.
+#![tactic(auto, unfolding(crate::specs::Walking::value_at, crate::specs::Walking::end_of, crate::specs::Walking::step))]
 
 ghost use Rattle.std.specs.Prelude.{◌≡◌, ◌≤◌, ◌+◌, length, drop};
 ghost use Rattle.file_faults.specs.Walking.{bytes_read, end_of, first, found_at, front, size_of, step, value_at};
@@ -30,7 +31,6 @@ fn bytes_read(number: Number) -> usize
 }
 
 /// The number that is read at a field, or 0 if the file does not have so many bytes.
-#[tactic(auto, unfolding(crate::specs::Walking::value_at))]
 pub(crate) fn value_at(bytes: &[u8], found: Found) -> u64
     ensures { result ≡ value_at bytes.now found }
 {
@@ -54,7 +54,6 @@ fn size_of(walk: Walk, number: Number) -> u64
 }
 
 /// The offset after a field.
-#[tactic(auto, unfolding(crate::specs::Walking::end_of))]
 fn end_of(found: Found) -> u128
     ensures { result ≡ end_of found }
 {
@@ -85,7 +84,6 @@ fn front() -> Walk
 
 /// One step of the walk to an offset. It stays at the field that has the offset, and at one that the file does not have
 /// whole.
-#[tactic(auto, unfolding(crate::specs::Walking::step))]
 fn step(bytes: &[u8], target: usize, found: Found) -> Found
     ensures { result ≡ step bytes.now target found }
 {

@@ -1,4 +1,5 @@
 //! The field of a module file that comes after another one, by what that one has.
+#![tactic(auto, unfolding(crate::specs::Walks::counted, crate::specs::Walks::noted, crate::specs::Walks::at_group, crate::specs::Walks::turn))]
 
 ghost use Rattle.std.specs.Prelude.{◌≡◌};
 ghost use Rattle.file_faults.specs.Walks.{at_field, at_group, count_of, counted, next_field, noted};
@@ -74,7 +75,6 @@ pub(crate) fn count_of(counts: Counts, group: Group) -> u64
 }
 
 /// The numbers with that for one group.
-#[tactic(auto, unfolding(crate::specs::Walks::counted))]
 fn counted(counts: Counts, group: Group, count: u64) -> Counts
     ensures { result ≡ counted counts group count }
 {
@@ -101,7 +101,6 @@ fn counted(counts: Counts, group: Group, count: u64) -> Counts
 }
 
 /// The walk that knows what the number of a field is for.
-#[tactic(auto, unfolding(crate::specs::Walks::noted))]
 fn noted(walk: Walk, role: Role, value: u64) -> Walk
     ensures { result ≡ noted walk role value }
 {
@@ -126,7 +125,6 @@ fn at_field(walk: Walk, field: Field) -> Walk
 }
 
 /// The first field of a group of which some are left, or else what comes after the group.
-#[tactic(auto, unfolding(crate::specs::Walks::at_group))]
 fn at_group(walk: Walk, group: Group, left: u64) -> Walk
     ensures { result ≡ at_group walk group left }
 {
@@ -171,7 +169,6 @@ fn of_tag(tag: u64) -> Field
 }
 
 /// The walk one turn on, if it is where the next field is chosen.
-#[tactic(auto, unfolding(crate::specs::Walks::turn))]
 fn turn(walk: Walk, field: Field) -> Walk
     ensures { result ≡ turn walk field }
 {

@@ -77,10 +77,10 @@ module _ (m : Contents) (s : State) where
       (none_mapped faults.Unwritable _ (no_word_within (may_write_word m s.context) b.writes w.0))
       (none_mapped faults.Unreadable _ (no_word_within (may_read_word m s.context) b.reads w.1)))
       (neither _ _
-      (none_of (gifts.written_fault m s.context) (λ j. is_some (writable_bytes m s.context j))
+      (none_of (gifts.parameter_fault true m s.context) (λ j. is_some (writable_bytes m s.context j))
       (λ j e. found_unless (is_some (writable_bytes m s.context j)) (faults.UnwritableParameter (pos j)) e)
       b.written_parameters p.0)
-      (none_of (gifts.read_fault m s.context) (λ j. is_some (readable_bytes m s.context j))
+      (none_of (gifts.parameter_fault false m s.context) (λ j. is_some (readable_bytes m s.context j))
       (λ j e. found_unless (is_some (readable_bytes m s.context j)) (faults.UnreadableParameter (pos j)) e)
       b.read_parameters p.1))
 

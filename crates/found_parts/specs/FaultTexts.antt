@@ -4,7 +4,6 @@ use Rattle.std.specs.Fmt.{decimal, signed_decimal}
 use Rattle.fact_texts.specs.Texts.{Text}
 use Rattle.fact_texts.specs.RowTexts.{context_name}
 use Rattle.state_texts.specs.FrameTexts.{word_text}
-use Rattle.found_parts.specs.declared.faults.AtDepth.{AtDepth}
 use Rattle.found_parts.specs.declared.faults.Wanted.{Wanted}
 use Rattle.found_parts.specs.declared.faults.Wanted.TheVariants as wants
 use Rattle.found_parts.specs.declared.faults.StartFault.{StartFault}
@@ -14,10 +13,6 @@ abbrev pub wanted_text : Wanted → Text
 wanted_text (wants.Code offset) = codes "code " ++ decimal offset
 wanted_text (wants.Number number) = signed_decimal number
 wanted_text (wants.Parameter number) = codes "parameter " ++ (signed_decimal number ++ codes " byte 0 by 4")
-
-abbrev pub depth_text : AtDepth → Text
-depth_text at =
-    codes "depth " ++ (signed_decimal at.depth ++ (codes ", not " ++ signed_decimal at.block))
 
 abbrev pub fault_text : StartFault → Text
 fault_text (faults.OtherNext entry) = codes "the branch at " ++ (decimal entry ++ codes " is next")
@@ -39,7 +34,9 @@ fault_text (faults.Word word wanted found) =
     ++ word_text found))))
 fault_text (faults.NoLabel offset) = codes "no label is at " ++ decimal offset
 fault_text (faults.LabelContext offset) = codes "the label at " ++ (decimal offset ++ codes " is of another context")
-fault_text (faults.LabelDepth offset at) = codes "the label at " ++ (decimal offset ++ (codes " has " ++ depth_text at))
+fault_text (faults.LabelDepth offset depth block) =
+    codes "the label at " ++ (decimal offset ++ (codes " has depth " ++ (signed_decimal depth ++ (codes ", not "
+    ++ signed_decimal block))))
 fault_text (faults.LabelRegister offset) =
     codes "the label at " ++ (decimal offset ++ codes " says something of a register")
 fault_text (faults.LabelWord offset word) =

@@ -1,5 +1,5 @@
 -- What a branch is given that is not there to be given.
-use Rattle.std.specs.Prelude.{ℕ, if◌then◌else◌, ℤ, pos, ◌+ℤ◌, List, Option, Some, None, option_map, is_some}
+use Rattle.std.specs.Prelude.{ℕ, Bool, true, false, if◌then◌else◌, ℤ, pos, ◌+ℤ◌, List, Option, Some, None, option_map, is_some}
 use Rattle.std.specs.Option.{option_or}
 use Rattle.module_format.specs.declared.rows.Interval.{Interval}
 use Rattle.module_format.specs.declared.rows.ChannelRow.{ChannelRow}
@@ -21,21 +21,18 @@ abbrev pub read_words_fault : Contents → ℕ → List Interval → Option Star
 read_words_fault m context intervals =
     option_map faults.Unreadable (first_of (failing_within (may_read_word m context)) intervals)
 
--- a parameter, if it may not write what that names
-abbrev pub written_fault : Contents → ℕ → ℕ → Option StartFault
-written_fault m context j =
+-- a parameter, if it may not use what that names: write it, or read it
+abbrev pub parameter_fault : Bool → Contents → ℕ → ℕ → Option StartFault
+parameter_fault true m context j =
     if is_some (writable_bytes m context j) then None else Some (faults.UnwritableParameter (pos j))
-
--- a parameter, if it may not read what that names
-abbrev pub read_fault : Contents → ℕ → ℕ → Option StartFault
-read_fault m context j =
+parameter_fault false m context j =
     if is_some (readable_bytes m context j) then None else Some (faults.UnreadableParameter (pos j))
 
 -- the first parameter that the branch uses otherwise than the context may
 abbrev pub parameters_fault : Contents → ℕ → Branch → Option StartFault
 parameters_fault m context b =
-    option_or (first_of (written_fault m context) b.written_parameters)
-    (first_of (read_fault m context) b.read_parameters)
+    option_or (first_of (parameter_fault true m context) b.written_parameters)
+    (first_of (parameter_fault false m context) b.read_parameters)
 
 -- the first word or parameter of which this is so
 abbrev pub gifts_fault : Contents → ℕ → Branch → Option StartFault

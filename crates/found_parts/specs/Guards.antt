@@ -46,11 +46,13 @@ abbrev pub name_text : GuardName → Text
 name_text (names.Constant value) = signed_decimal value
 name_text (names.Word word) = codes "word " ++ signed_decimal word
 
+abbrev pub guard_text : Guard → Text
+guard_text guard = kind_text guard.kind ++ (codes " by " ++ name_text guard.name)
+
 -- the guard that is disabled next
 abbrev pub next_text : NextGuard → Text
 next_text (nexts.Guard number guard) =
-    codes "guard " ++ (decimal number ++ (codes " is next: " ++ (kind_text guard.kind ++ (codes " by "
-    ++ name_text guard.name))))
+    codes "guard " ++ (decimal number ++ (codes " is next: " ++ guard_text guard))
 next_text nexts.None = codes "no guard is left"
 
 -- ---- the next one

@@ -1,7 +1,6 @@
 -- The words of the frame of which a message is sent.
-use Rattle.std.specs.Prelude.{◌&&◌, if◌then◌else◌, ℤ, pos, ◌+ℤ◌, int_le, ◌++◌, codes, Option, Some, None}
+use Rattle.std.specs.Prelude.{◌&&◌, if◌then◌else◌, ℤ, pos, ◌+ℤ◌, int_le, Option, Some, None}
 use Rattle.std.specs.Prelude.{option_map, option_and_then}
-use Rattle.std.specs.Fmt.{signed_decimal}
 use Rattle.module_format.specs.Rows.{Fact}
 use Rattle.module_format.specs.declared.fact.Fact.TheVariants.{Number, Pointer}
 use Rattle.module_format.specs.declared.stack.Stack.{Stack}
@@ -11,14 +10,10 @@ use Rattle.states.specs.State.{State}
 use Rattle.rulings.specs.Pointers.{are_near}
 use Rattle.rulings.specs.Reach.{word_of_byte, words_touched}
 use Rattle.rulings.specs.declared.pointers.Pointed.{Pointed}
-use Rattle.fact_texts.specs.Texts.{Text, is_one}
-use Rattle.state_texts.specs.FrameTexts.{word_text}
+use Rattle.fact_texts.specs.Texts.{is_one}
 use Rattle.found_parts.specs.declared.messages.KnownWord.{KnownWord}
 use Rattle.found_parts.specs.declared.messages.Words.{Words}
 use Rattle.found_parts.specs.Asked.{is_number, first_failing}
-
-abbrev pub known_text : KnownWord → Text
-known_text known = codes "word " ++ (signed_decimal known.word ++ (codes " is " ++ word_text known.fact))
 
 -- the one number that a fact says
 abbrev pub constant_of : Fact → Option ℤ

@@ -1,8 +1,7 @@
 -- What a branch has in common with one that is started already.
-use Rattle.std.specs.Prelude.{ℕ, ◌==◌, if◌then◌else◌, ℤ, pos, ◌-ℤ◌, int_lt, List, ◌++◌, codes, Option, Some, None}
+use Rattle.std.specs.Prelude.{ℕ, ◌==◌, if◌then◌else◌, ℤ, pos, ◌-ℤ◌, int_lt, List, Option, Some, None}
 use Rattle.std.specs.Prelude.{option_map, slice_get}
 use Rattle.std.specs.Option.{option_or}
-use Rattle.std.specs.Fmt.{decimal}
 use Rattle.module_format.specs.declared.rows.Interval.{Interval}
 use Rattle.module_format.specs.Contents.{Contents, Par, Branch}
 use Rattle.module_format.specs.Pars.{intervals_meet}
@@ -10,22 +9,11 @@ use Rattle.states.specs.declared.known.Mode.{Mode}
 use Rattle.states.specs.declared.known.Mode.TheVariants.{Starting}
 use Rattle.states.specs.State.{State}
 use Rattle.rulings.specs.Reach.{is_listed}
-use Rattle.fact_texts.specs.Texts.{Text, range_text}
 use Rattle.fact_texts.specs.declared.facts.RangeText.{RangeText}
 use Rattle.found_parts.specs.declared.sharing.Common.{Common}
 use Rattle.found_parts.specs.declared.sharing.Common.TheVariants as commons
 use Rattle.found_parts.specs.declared.sharing.Shared.{Shared}
 use Rattle.found_parts.specs.Firsts.{first_of, among}
-
--- ---- texts
-
-abbrev pub what_text : Common → Text
-what_text (commons.Words words) = codes "word " ++ range_text words.lo words.hi
-what_text (commons.Parameter number) = codes "parameter " ++ decimal number
-
-abbrev pub shared_text : Shared → Text
-shared_text shared =
-    codes "the branch at " ++ (decimal shared.entry ++ (codes " uses " ++ (what_text shared.what ++ codes " too")))
 
 -- ---- words
 

@@ -8,7 +8,6 @@ use Rattle.module_format.specs.Contents.{Par, Label}
 use Rattle.certificate.specs.Starting.{says_of_word}
 use Rattle.states.specs.State.{is_same_number}
 use Rattle.fact_texts.specs.RowTexts.{is_unknown}
-use Rattle.found_parts.specs.declared.faults.AtDepth.{AtDepth}
 use Rattle.found_parts.specs.declared.faults.StartFault.{StartFault}
 use Rattle.found_parts.specs.declared.faults.StartFault.TheVariants as faults
 use Rattle.found_parts.specs.Firsts.{first_of}
@@ -33,12 +32,9 @@ hidden_word par entry =
 abbrev pub context_fault : Par → Label → Option StartFault
 context_fault par t = if t.context == par.context then None else Some (faults.LabelContext par.successor)
 
-abbrev pub depth_of : Par → Label → AtDepth
-depth_of par t = record { depth = t.depth; block = par.block }
-
 abbrev pub depth_fault : Par → Label → Option StartFault
 depth_fault par t =
-    if is_same_number t.depth par.block then None else Some (faults.LabelDepth par.successor (depth_of par t))
+    if is_same_number t.depth par.block then None else Some (faults.LabelDepth par.successor t.depth par.block)
 
 -- nothing is said of the registers
 abbrev pub is_unsaid : Stack Fact → Bool

@@ -1,6 +1,5 @@
 -- A turn of a loop: what it costs, and what it may cost.
-use Rattle.std.specs.Prelude.{ℕ, ◌+◌, ◌-◌, ◌^◌, min, ◌&&◌, if◌then◌else◌, ℤ, ◌++◌, codes, Option, Some, None}
-use Rattle.std.specs.Fmt.{decimal}
+use Rattle.std.specs.Prelude.{ℕ, ◌+◌, ◌-◌, ◌^◌, min, ◌&&◌, if◌then◌else◌, ℤ, Option, Some, None}
 use Rattle.module_format.specs.Rows.{Fact}
 use Rattle.module_format.specs.declared.fact.Fact.TheVariants.{Pointer}
 use Rattle.module_format.specs.Regions.{is_frame}
@@ -8,12 +7,7 @@ use Rattle.states.specs.declared.known.WordFact.{WordFact}
 use Rattle.states.specs.declared.known.WordFact.TheVariants.{Index}
 use Rattle.states.specs.State.{State, is_same_number}
 use Rattle.rulings.specs.Reach.{word_of_byte}
-use Rattle.fact_texts.specs.Texts.{Text}
 use Rattle.found_parts.specs.declared.turns.Turn.{Turn}
-
-abbrev pub turn_text : Turn → Text
-turn_text turn =
-    codes "a turn costs " ++ (decimal turn.cost ++ (codes " and the weight is " ++ decimal turn.weight))
 
 -- the word of the frame to which a pointer leads exactly
 abbrev pub word_pointed : Fact → Option ℤ

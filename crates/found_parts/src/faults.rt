@@ -1,7 +1,8 @@
 //! What a start of a branch wants that is not so, in words.
 
-ghost use Rattle.std.specs.Prelude.{Some};
-ghost use Rattle.found_parts.specs.FaultTexts.{wanted_text, depth_text, fault_text};
+ghost use Rattle.std.specs.Prelude.{◌≡◌, if◌then◌else◌, Some, None};
+ghost use Rattle.states.specs.State.{is_same_number};
+ghost use Rattle.found_parts.specs.FaultTexts.{wanted_text, fault_text};
 
 use fact_texts::ContextText;
 use state_texts::WordText;
@@ -28,22 +29,6 @@ impl fmt::Display for Wanted {
             Wanted::Number { number } => write!(f, "{number}"),
             Wanted::Parameter { number } => write!(f, "parameter {number} byte 0 by 4"),
         }
-    }
-}
-
-/// The depth of a label, and the block at which it is to be.
-#[derive(Clone, Copy)]
-pub struct AtDepth {
-    pub depth: i32,
-    pub block: i32,
-}
-
-impl fmt::Display for AtDepth {
-    ghost output = { λ at. Some (depth_text at) };
-
-    fn fmt<W: fmt::Write>(&self, f: &mut fmt::Formatter<W>) -> fmt::Result {
-        let AtDepth { depth, block } = *self;
-        write!(f, "depth {depth}, not {block}")
     }
 }
 
@@ -106,7 +91,8 @@ pub enum StartFault {
     /// It is not at the depth of the block.
     LabelDepth {
         offset: u32,
-        at: AtDepth,
+        depth: i32,
+        block: i32,
     },
     /// It says something of a register.
     LabelRegister {
@@ -158,7 +144,11 @@ impl fmt::Display for StartFault {
             StartFault::LabelContext { offset } => {
                 write!(f, "the label at {offset} is of another context")
             }
-            StartFault::LabelDepth { offset, at } => write!(f, "the label at {offset} has {at}"),
+            StartFault::LabelDepth {
+                offset,
+                depth,
+                block,
+            } => { write!(f, "the label at {offset} has depth {depth}, not {block}") }
             StartFault::LabelRegister { offset } => {
                 write!(f, "the label at {offset} says something of a register")
             }
@@ -167,4 +157,18 @@ impl fmt::Display for StartFault {
             }
         }
     }
+}
+
+/// A fault, unless something is so.
+pub(crate) fn unless(is_so: bool, fault: StartFault) -> Option<StartFault>
+    ensures { result ≡ (if is_so then None else Some fault) }
+{
+    if is_so { None } else { Some(fault) }
+}
+
+/// Whether two numbers are the same.
+pub(crate) fn is_same(number: i32, other: i32) -> bool
+    ensures { result ≡ is_same_number number other }
+{
+    number == other
 }

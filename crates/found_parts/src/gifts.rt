@@ -3,11 +3,11 @@
 ghost use Rattle.std.specs.Prelude.{◌≡◌};
 ghost use Rattle.module_format.specs.Contents.{branch_of, par_of};
 ghost use Rattle.found_parts.specs.Firsts.{first_of};
-ghost use Rattle.found_parts.specs.Gifts.{written_words_fault, read_words_fault, written_fault, read_fault};
+ghost use Rattle.found_parts.specs.Gifts.{written_words_fault, read_words_fault, parameter_fault};
 ghost use Rattle.found_parts.specs.Gifts.{parameters_fault, given_word, block_word, gifts_fault, hidden_fault};
 
 use crate::asked::{Asked, first_within};
-use crate::faults::StartFault;
+use crate::faults::{StartFault, unless};
 use certificate::Module;
 use module_format::{BranchRow, ChannelRow, Interval, ParRow};
 use rulings::Place;
@@ -28,49 +28,35 @@ fn read_words_fault(module: &Module, context: u32, intervals: &[Interval]) -> Op
     Some(StartFault::Unreadable { word })
 }
 
-/// A parameter, if the context may not write what it names.
-fn written_fault(place: &Place, context: u32, parameter: u16) -> Option<StartFault>
-    ensures { result ≡ written_fault place.now.module.now context parameter }
+/// A parameter, if the context may not use what it names: write it, or read it.
+fn parameter_fault(
+    place: &Place,
+    context: u32,
+    is_written: bool,
+    parameter: u16,
+) -> Option<StartFault>
+    ensures { result ≡ parameter_fault is_written place.now.module.now context parameter }
 {
-    if place.writable_bytes(context, parameter).is_some() {
-        return None;
+    let number = i32::from(parameter);
+    if is_written {
+        let bytes = place.writable_bytes(context, parameter);
+        return unless(bytes.is_some(), StartFault::UnwritableParameter { number });
     }
-    Some(StartFault::UnwritableParameter {
-        number: i32::from(parameter),
-    })
+    let bytes = place.readable_bytes(context, parameter);
+    unless(bytes.is_some(), StartFault::UnreadableParameter { number })
 }
 
-/// A parameter, if the context may not read what it names.
-fn read_fault(place: &Place, context: u32, parameter: u16) -> Option<StartFault>
-    ensures { result ≡ read_fault place.now.module.now context parameter }
-{
-    if place.readable_bytes(context, parameter).is_some() {
-        return None;
-    }
-    Some(StartFault::UnreadableParameter {
-        number: i32::from(parameter),
-    })
-}
-
-/// The first of some parameters of which the context may not write what it names.
-fn all_written_fault(place: &Place, context: u32, parameters: &[u16]) -> Option<StartFault>
-    ensures { result ≡ first_of (written_fault place.now.module.now context) parameters.now }
+/// The first of some parameters of which this is so.
+fn first_fault(
+    place: &Place,
+    context: u32,
+    is_written: bool,
+    parameters: &[u16],
+) -> Option<StartFault>
+    ensures { result ≡ first_of (parameter_fault is_written place.now.module.now context) parameters.now }
 {
     for parameter in parameters {
-        let fault = written_fault(place, context, *parameter);
-        if fault.is_some() {
-            return fault;
-        }
-    }
-    None
-}
-
-/// The first of some parameters of which the context may not read what it names.
-fn all_read_fault(place: &Place, context: u32, parameters: &[u16]) -> Option<StartFault>
-    ensures { result ≡ first_of (read_fault place.now.module.now context) parameters.now }
-{
-    for parameter in parameters {
-        let fault = read_fault(place, context, *parameter);
+        let fault = parameter_fault(place, context, is_written, *parameter);
         if fault.is_some() {
             return fault;
         }
@@ -87,8 +73,8 @@ fn parameters_fault(module: &Module, context: u32, branch: &BranchRow) -> Option
         at: 0,
         len: 0,
     };
-    let written = all_written_fault(&place, context, &branch.written_parameters);
-    written.or(all_read_fault(&place, context, &branch.read_parameters))
+    let written = first_fault(&place, context, true, &branch.written_parameters);
+    written.or(first_fault(&place, context, false, &branch.read_parameters))
 }
 
 /// The first word or parameter that the branch uses otherwise than the context may that starts it.

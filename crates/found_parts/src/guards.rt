@@ -2,8 +2,7 @@
 
 ghost use Rattle.std.specs.Prelude.{◌≡◌, Some};
 ghost use Rattle.states.specs.Views.{state_of};
-ghost use Rattle.found_parts.specs.Guards.{registers_text, kind_text, name_text, next_text, is_disabling, next_of};
-ghost use Rattle.found_parts.specs.Guards.{next_guard};
+ghost use Rattle.found_parts.specs.Guards.{registers_text, guard_text, next_text, is_disabling, next_of, next_guard};
 
 use crate::names::{ChannelName, WordName};
 use fact_texts::FactText;
@@ -44,32 +43,24 @@ impl fmt::Display for GuardRegisters {
     }
 }
 
-/// What a guard waits for.
+/// A guard: what it waits for, and what its truth is known by.
 #[derive(Clone, Copy)]
-struct KindText(GuardKind);
+struct GuardText(Guard);
 
-impl fmt::Display for KindText {
-    ghost output = { λ kind. Some (kind_text kind.0) };
+impl fmt::Display for GuardText {
+    ghost output = { λ guard. Some (guard_text guard.0) };
 
     fn fmt<W: fmt::Write>(&self, f: &mut fmt::Formatter<W>) -> fmt::Result {
-        match self.0 {
-            GuardKind::Channel(kind) => write!(f, "{}", ChannelName(kind)),
-            GuardKind::Skip => write!(f, "a skip"),
-        }
-    }
-}
-
-/// What the truth of a guard is known by.
-#[derive(Clone, Copy)]
-struct NameText(GuardName);
-
-impl fmt::Display for NameText {
-    ghost output = { λ name. Some (name_text name.0) };
-
-    fn fmt<W: fmt::Write>(&self, f: &mut fmt::Formatter<W>) -> fmt::Result {
-        match self.0 {
-            GuardName::Constant(value) => write!(f, "{value}"),
-            GuardName::Word(word) => write!(f, "word {word}"),
+        let Guard { kind, name, .. } = self.0;
+        match (kind, name) {
+            (GuardKind::Channel(kind), GuardName::Constant(value)) => {
+                write!(f, "{} by {value}", ChannelName(kind))
+            }
+            (GuardKind::Channel(kind), GuardName::Word(word)) => {
+                write!(f, "{} by word {word}", ChannelName(kind))
+            }
+            (GuardKind::Skip, GuardName::Constant(value)) => write!(f, "a skip by {value}"),
+            (GuardKind::Skip, GuardName::Word(word)) => write!(f, "a skip by word {word}"),
         }
     }
 }
@@ -88,12 +79,9 @@ impl fmt::Display for NextGuard {
 
     fn fmt<W: fmt::Write>(&self, f: &mut fmt::Formatter<W>) -> fmt::Result {
         match *self {
-            NextGuard::Guard { number, guard } => write!(
-                f,
-                "guard {number} is next: {} by {}",
-                KindText(guard.kind),
-                NameText(guard.name)
-            ),
+            NextGuard::Guard { number, guard } => {
+                write!(f, "guard {number} is next: {}", GuardText(guard))
+            }
             NextGuard::None => write!(f, "no guard is left"),
         }
     }

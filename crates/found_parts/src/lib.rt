@@ -18,7 +18,6 @@ pub use faults::{StartFault, Wanted};
 pub use guards::{GuardRegisters, NextGuard, next_guard};
 pub use laws::{named_conditions_are_unmet, named_parts_are_shared};
 pub use messages::{KnownWord, constant_of, unknown_word};
-pub use names::ChannelName;
 pub use sharing::{Common, Shared, shared_in};
 pub use starts::{Start, start_fault};
 pub use turns::{Turn, turn_of};

@@ -1,33 +1,22 @@
 //! The words of which a message is sent.
 
-ghost use Rattle.std.specs.Prelude.{◌≡◌, ◌≤ℤ◌, ◌<ℤ◌, pos, IfSome, Some, true};
+ghost use Rattle.std.specs.Prelude.{◌≡◌, ◌≤ℤ◌, ◌<ℤ◌, pos, IfSome, true};
 ghost use Rattle.states.specs.Views.{state_of};
 ghost use Rattle.rulings.specs.Pointers.{are_near};
-ghost use Rattle.found_parts.specs.Messages.{known_text, constant_of, message_length, buffer_of, words_of, words_sent};
+ghost use Rattle.found_parts.specs.Messages.{constant_of, message_length, buffer_of, words_of, words_sent};
 ghost use Rattle.found_parts.specs.Messages.{unknown_word, first_unknown};
 
 use crate::asked::{Asked, first_failing};
 use module_format::{Fact, MAX_MESSAGE, Stack};
 use rulings::pointers::{Pointed, are_near};
 use rulings::reach::{word_of_byte, words_touched};
-use state_texts::WordText;
 use states::{Known, State, WordFact};
-use std::fmt;
 
 /// A word of the frame, and what is known of it.
 #[derive(Clone, Copy)]
 pub struct KnownWord {
     pub word: i64,
     pub fact: WordFact,
-}
-
-impl fmt::Display for KnownWord {
-    ghost output = { λ known. Some (known_text known) };
-
-    fn fmt<W: fmt::Write>(&self, f: &mut fmt::Formatter<W>) -> fmt::Result {
-        let KnownWord { word, fact } = *self;
-        write!(f, "word {word} is {}", WordText(fact))
-    }
 }
 
 /// Words of the frame, from the first one on.

@@ -11,7 +11,7 @@ ghost use Rattle.found_parts.specs.Openings.{is_wanted, unlike, unwritable, unre
 ghost use Rattle.found_parts.specs.Openings.{channel_fault, parameter_word, given_fault, end_fault};
 ghost use Rattle.found_parts.specs.Openings.{listed_fault, named_fault, opening_fault};
 
-use crate::faults::{StartFault, Wanted};
+use crate::faults::{StartFault, Wanted, unless};
 use certificate::Module;
 use module_format::{BranchRow, ChannelRow, EndKind, EndRow, Fact, ParRow, Region, Step};
 use states::{State, WordFact};
@@ -73,34 +73,32 @@ fn unlike(state: &State, word: i64, wanted: Wanted) -> Option<StartFault>
     ensures { result ≡ unlike (state_of state.now) word wanted }
 {
     let found = state.fact_of(word);
-    if is_wanted(wanted, found) {
-        return None;
-    }
-    Some(StartFault::Word {
+    let fault = StartFault::Word {
         word,
         wanted,
         found,
-    })
+    };
+    unless(is_wanted(wanted, found), fault)
 }
 
 /// A word, if the context may not write it.
 fn unwritable(module: &Module, state: &State, word: i64) -> Option<StartFault>
     ensures { result ≡ unwritable «module».now (state_of state.now) word }
 {
-    if module.may_write_word(state.context, word) {
-        return None;
-    }
-    Some(StartFault::Unwritable { word })
+    unless(
+        module.may_write_word(state.context, word),
+        StartFault::Unwritable { word },
+    )
 }
 
 /// A word, if the context may not read it.
 fn unreadable(module: &Module, state: &State, word: i64) -> Option<StartFault>
     ensures { result ≡ unreadable «module».now (state_of state.now) word }
 {
-    if module.may_read_word(state.context, word) {
-        return None;
-    }
-    Some(StartFault::Unreadable { word })
+    unless(
+        module.may_read_word(state.context, word),
+        StartFault::Unreadable { word },
+    )
 }
 
 /// A word, if it may not be written or is not what is wanted.

@@ -1,12 +1,11 @@
 //! What a branch has in common with one that is started already.
 
-ghost use Rattle.std.specs.Prelude.{◌≡◌, Some, map};
+ghost use Rattle.std.specs.Prelude.{◌≡◌, map};
 ghost use Rattle.module_format.specs.Contents.{branch_of};
 ghost use Rattle.module_format.specs.Pars.{intervals_meet};
 ghost use Rattle.states.specs.Views.{state_of};
 ghost use Rattle.found_parts.specs.Firsts.{first_of, among};
-ghost use Rattle.found_parts.specs.Sharing.{what_text, shared_text, greater, lesser, words_between, meeting, common_words, listed};
-ghost use Rattle.found_parts.specs.Sharing.{common_number};
+ghost use Rattle.found_parts.specs.Sharing.{greater, lesser, words_between, meeting, common_words, listed, common_number};
 ghost use Rattle.found_parts.specs.Sharing.{words_in_common, numbers_in_common, in_common, shared_with, shared_in};
 
 use certificate::Module;
@@ -14,7 +13,6 @@ use fact_texts::RangeText;
 use module_format::{BranchRow, Interval};
 use rulings::reach::is_listed;
 use states::{Mode, State};
-use std::fmt;
 
 /// What two branches have in common.
 #[derive(Clone, Copy)]
@@ -25,32 +23,12 @@ pub enum Common {
     Parameter { number: u16 },
 }
 
-impl fmt::Display for Common {
-    ghost output = { λ what. Some (what_text what) };
-
-    fn fmt<W: fmt::Write>(&self, f: &mut fmt::Formatter<W>) -> fmt::Result {
-        match *self {
-            Common::Words { words } => write!(f, "word {words}"),
-            Common::Parameter { number } => write!(f, "parameter {number}"),
-        }
-    }
-}
-
 /// What a branch has in common with another one, where one of them writes it.
 #[derive(Clone, Copy)]
 pub struct Shared {
     pub what: Common,
     /// Where the other one begins.
     pub entry: u32,
-}
-
-impl fmt::Display for Shared {
-    ghost output = { λ shared. Some (shared_text shared) };
-
-    fn fmt<W: fmt::Write>(&self, f: &mut fmt::Formatter<W>) -> fmt::Result {
-        let Shared { what, entry } = *self;
-        write!(f, "the branch at {entry} uses {what} too")
-    }
 }
 
 /// Whether two intervals have a word in common.

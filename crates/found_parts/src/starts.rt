@@ -5,11 +5,10 @@ ghost use Rattle.module_format.specs.Contents.{branch_of, par_of, contents_of, l
 ghost use Rattle.states.specs.State.{is_same_number};
 ghost use Rattle.states.specs.Views.{state_of};
 ghost use Rattle.par_rules.specs.ParRules.{is_workspace};
-ghost use Rattle.found_parts.specs.Starts.{entry_in, next_entry, next_fault, context_fault, depth_fault};
-ghost use Rattle.found_parts.specs.Starts.{workspace_fault, first_fault, entry_fault, given_fault};
-ghost use Rattle.found_parts.specs.Starts.{start_fault, start_of, turn_fault};
+ghost use Rattle.found_parts.specs.Starts.{entry_in, next_entry, next_fault, context_fault, depth_fault, workspace_fault};
+ghost use Rattle.found_parts.specs.Starts.{first_fault, entry_fault, given_fault, start_fault, start_of, turn_fault};
 
-use crate::faults::StartFault;
+use crate::faults::{StartFault, is_same, unless};
 use crate::gifts::{gifts_fault, hidden_fault};
 use crate::openings::opening_fault;
 use crate::successors::successor_fault;
@@ -64,29 +63,19 @@ fn context_fault(module: &Module, state: &State, par: &ParRow) -> Option<StartFa
     ensures { result ≡ context_fault «module».now (state_of state.now) (par_of par.now) }
 {
     let number = u32::from(par.context);
-    if number == state.context {
-        return None;
-    }
-    let first_branch = module.tables().first_branch();
-    Some(StartFault::Context {
-        wanted: ContextText {
-            first_branch,
-            number,
-        },
-    })
+    let wanted = ContextText {
+        first_branch: module.tables().first_branch(),
+        number,
+    };
+    unless(number == state.context, StartFault::Context { wanted })
 }
 
 /// The PAR is at another depth.
 fn depth_fault(state: &State, par: &ParRow) -> Option<StartFault>
     ensures { result ≡ depth_fault (state_of state.now) (par_of par.now) }
 {
-    if par.depth == state.depth {
-        return None;
-    }
-    Some(StartFault::Depth {
-        wanted: par.depth,
-        found: state.depth,
-    })
+    let (wanted, found) = (par.depth, state.depth);
+    unless(is_same(wanted, found), StartFault::Depth { wanted, found })
 }
 
 /// Whether an offset in the frame is that of a word.
@@ -105,13 +94,8 @@ fn is_workspace(word: i32, fact: Fact) -> bool
             region,
             lo,
             hi,
-            step,
-        } => {
-            region.is_frame()
-                && is_offset_of(word, lo)
-                && is_offset_of(word, hi)
-                && step == Step::Word
-        }
+            step: Step::Word,
+        } => region.is_frame() && is_offset_of(word, lo) && is_offset_of(word, hi),
         _ => false,
     }
 }
@@ -120,12 +104,11 @@ fn is_workspace(word: i32, fact: Fact) -> bool
 fn workspace_fault(state: &State, branch: &BranchRow) -> Option<StartFault>
     ensures { result ≡ workspace_fault (state_of state.now) (branch_of branch.now) }
 {
-    if is_workspace(branch.workspace, state.stack.a.fact) {
-        return None;
-    }
-    Some(StartFault::Workspace {
-        word: branch.workspace,
-    })
+    let word = branch.workspace;
+    unless(
+        is_workspace(word, state.stack.a.fact),
+        StartFault::Workspace { word },
+    )
 }
 
 /// It is not the turn of the branch: another one is next, or the PAR is elsewhere.

@@ -6,7 +6,7 @@ ghost use Rattle.found_parts.specs.Firsts.{first_of};
 ghost use Rattle.found_parts.specs.Successors.{said_word, block_word, hidden_word, context_fault, depth_fault};
 ghost use Rattle.found_parts.specs.Successors.{is_unsaid, register_fault, word_fault, label_fault, successor_fault};
 
-use crate::faults::{AtDepth, StartFault};
+use crate::faults::{StartFault, is_same, unless};
 use certificate::Module;
 use fact_texts::is_unknown;
 use module_format::{ChannelRow, Entry, Fact, LabelRow, ParRow, Stack};
@@ -68,28 +68,23 @@ fn entries_word(par: &ParRow, entries: &[Entry]) -> Option<i64>
 fn context_fault(par: &ParRow, row: &LabelRow) -> Option<StartFault>
     ensures { result ≡ context_fault (par_of par.now) (label_of row.now) }
 {
-    if row.context == par.context {
-        return None;
-    }
-    Some(StartFault::LabelContext {
-        offset: par.successor,
-    })
+    let offset = par.successor;
+    unless(
+        row.context == par.context,
+        StartFault::LabelContext { offset },
+    )
 }
 
 /// The label is at another depth.
 fn depth_fault(par: &ParRow, row: &LabelRow) -> Option<StartFault>
     ensures { result ≡ depth_fault (par_of par.now) (label_of row.now) }
 {
-    if row.depth == par.block {
-        return None;
-    }
-    Some(StartFault::LabelDepth {
+    let fault = StartFault::LabelDepth {
         offset: par.successor,
-        at: AtDepth {
-            depth: row.depth,
-            block: par.block,
-        },
-    })
+        depth: row.depth,
+        block: par.block,
+    };
+    unless(is_same(row.depth, par.block), fault)
 }
 
 /// Whether nothing is said of the registers.
@@ -103,12 +98,8 @@ fn is_unsaid(stack: Stack<Fact>) -> bool
 fn register_fault(par: &ParRow, row: &LabelRow) -> Option<StartFault>
     ensures { result ≡ register_fault (par_of par.now) (label_of row.now) }
 {
-    if is_unsaid(row.stack) {
-        return None;
-    }
-    Some(StartFault::LabelRegister {
-        offset: par.successor,
-    })
+    let offset = par.successor;
+    unless(is_unsaid(row.stack), StartFault::LabelRegister { offset })
 }
 
 /// The label says something of a word of the block, or of a channel.

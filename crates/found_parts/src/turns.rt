@@ -1,13 +1,12 @@
 //! A turn of a loop: what it costs, and what it may cost.
 
-ghost use Rattle.std.specs.Prelude.{◌≡◌, Some};
+ghost use Rattle.std.specs.Prelude.{◌≡◌};
 ghost use Rattle.states.specs.Views.{state_of};
-ghost use Rattle.found_parts.specs.Turns.{turn_text, word_pointed, weight_in, weight_of, turn_cost, turn_of};
+ghost use Rattle.found_parts.specs.Turns.{word_pointed, weight_in, weight_of, turn_cost, turn_of};
 
 use module_format::Fact;
 use rulings::reach::word_of_byte;
 use states::{State, WordFact};
-use std::fmt;
 
 /// A turn of a loop, where it ends.
 #[derive(Clone, Copy)]
@@ -16,15 +15,6 @@ pub struct Turn {
     pub cost: u128,
     /// What the turn may cost.
     pub weight: u64,
-}
-
-impl fmt::Display for Turn {
-    ghost output = { λ turn. Some (turn_text turn) };
-
-    fn fmt<W: fmt::Write>(&self, f: &mut fmt::Formatter<W>) -> fmt::Result {
-        let Turn { cost, weight } = *self;
-        write!(f, "a turn costs {cost} and the weight is {weight}")
-    }
 }
 
 /// The word of the frame to which a pointer leads exactly.

@@ -3,8 +3,7 @@
 ghost use Rattle.std.specs.Prelude.{◌≡◌, ◌+◌, ◌<◌, ◌≤◌, ◌++◌, length, IfOk, OnOk, Some, string_bytes};
 ghost use Rattle.module_format.specs.Contents.{contents_of};
 ghost use Rattle.listings.specs.Listing.{entry_name, entry_of, entry_text, line_of, listed_entry, listed_line};
-ghost use Rattle.listings.specs.Listing.{listed_size, listing};
-ghost use Rattle.listings.specs.Listing.{operation_of};
+ghost use Rattle.listings.specs.Listing.{listed_size, listing, operation_of};
 
 use crate::names::{function_name, operation_name};
 use certificate::Module;

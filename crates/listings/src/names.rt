@@ -1,4 +1,5 @@
 //! The names of the instructions.
+#![tactic(auto, unfolding(crate::specs::Names::function_name, crate::specs::Names::binary_name, crate::specs::Names::operation_name))]
 
 ghost use Rattle.std.specs.Prelude.{◌≡◌};
 ghost use Rattle.listings.specs.Names.{binary_name, function_name, operation_name};
@@ -8,7 +9,6 @@ use prefix_decoder::Fun;
 use word_arithmetic::{Binary, Unary};
 
 /// The name of a function of an instruction byte.
-#[tactic(auto, unfolding(crate::specs::Names::function_name))]
 pub fn function_name(fun: Fun) -> &'static str
     ensures { result.now ≡ function_name fun }
 {
@@ -31,7 +31,6 @@ pub fn function_name(fun: Fun) -> &'static str
 }
 
 /// The name of an operation of two operands.
-#[tactic(auto, unfolding(crate::specs::Names::binary_name))]
 fn binary_name(op: Binary) -> &'static str
     ensures { result.now ≡ binary_name op }
 {
@@ -53,7 +52,6 @@ fn binary_name(op: Binary) -> &'static str
 }
 
 /// The name of an operation, which `opr` chooses by its operand.
-#[tactic(auto, unfolding(crate::specs::Names::operation_name))]
 pub fn operation_name(op: Op) -> &'static str
     ensures { result.now ≡ operation_name op }
 {

@@ -4,7 +4,6 @@ use Rattle.module_format.specs.declared.stack.Stack.{Stack}
 use Rattle.module_format.specs.Contents.{Contents}
 use Rattle.certificate.specs.Starts.{Entered}
 use Rattle.certificate.specs.Branches.{Forked, branch_at}
-use Rattle.machine_state.specs.declared.op.Op.{Op}
 use Rattle.machine_state.specs.declared.op.Op.TheVariants.{StartProcess}
 use Rattle.machine_state.specs.declared.instruction.Instruction.{Instruction}
 use Rattle.machine_state.specs.declared.instruction.Instruction.TheVariants.{Call, Operate}
@@ -27,13 +26,9 @@ abbrev pub branch_begun : Contents → Option Forked → Text
 branch_begun m None = codes "; none begins there"
 branch_begun m (Some f) = begun_text m f.context
 
-unfoldable pub branch_by : Op → Stack Known → Option ℤ
-branch_by StartProcess stack = constant_of stack.b.fact
-branch_by op stack = None
-
 -- how far a branch is that an instruction starts
 unfoldable pub branch_target : Instruction → Stack Known → Option ℤ
-branch_target (Operate op) stack = branch_by op stack
+branch_target (Operate StartProcess) stack = constant_of stack.b.fact
 branch_target i stack = None
 
 -- which branch begins where an instruction starts one
@@ -44,5 +39,4 @@ branch_part m next (Some distance) = branch_begun m (branch_at m (target next di
 -- how far the row is of the procedure or the branch to which an instruction leads
 unfoldable pub row_target : Instruction → ℤ → Stack Known → Option ℤ
 row_target Call e stack = Some e
-row_target (Operate op) e stack = branch_by op stack
-row_target i e stack = None
+row_target i e stack = branch_target i stack

@@ -8,7 +8,6 @@ use Rattle.certificate.specs.Starts.{procedure_at}
 use Rattle.certificate.specs.Branches.{Forked, branch_at}
 use Rattle.machine_state.specs.LocalStep.{target}
 use Rattle.module_format.specs.declared.stack.Stack.{Stack}
-use Rattle.machine_state.specs.declared.op.Op.{Op}
 use Rattle.machine_state.specs.declared.op.Op.TheVariants.{AlternationEnd, Move, StartProcess}
 use Rattle.machine_state.specs.declared.instruction.Instruction.{Instruction}
 use Rattle.machine_state.specs.declared.instruction.Instruction.TheVariants.{LoadLocalPointer, LoadLocal, StoreLocal}
@@ -80,15 +79,10 @@ offset_found depth e = codes "the offset is " ++ signed_decimal (pos 4 *ℤ (dep
 unfoldable pub move_found : State → Text
 move_found s = registers_found All s.stack ++ mixed_words (brings_mixed s)
 
--- what is known of the registers that an operation uses
-unfoldable pub pointer_by : Op → State → Text
-pointer_by Move s = move_found s
-pointer_by op s = registers_found (used_by op) s.stack
-
 -- the offset of a pointer that is made, or else what is known of the registers that are used
 unfoldable pub pointer_found : Instruction → ℤ → State → Text
 pointer_found LoadLocalPointer e s = offset_found s.depth e
-pointer_found (Operate op) e s = pointer_by op s
+pointer_found (Operate Move) e s = move_found s
 pointer_found i e s = registers_found (used i) s.stack
 
 unfoldable pub signed_text : ℤ → Text
@@ -163,14 +157,10 @@ regions_found m spot s =
 
 -- ---- ways
 
--- what an operation leads by: guards, or registers
-unfoldable pub way_by : Op → State → Text
-way_by AlternationEnd s = guards_found s
-way_by op s = registers_found (used_by op) s.stack
-
--- where an instruction leads, or by what
+-- where an instruction leads, or by what: guards, or registers
 unfoldable pub way_found : Instruction → ℕ → ℤ → State → Text
-way_found (Operate op) next e s = way_by op s
+way_found (Operate AlternationEnd) next e s = guards_found s
+way_found (Operate op) next e s = registers_found (used_by op) s.stack
 way_found i next e s = target_found next e
 
 unfoldable pub context_found : Contents → ℕ → Text
@@ -250,14 +240,10 @@ own_word_found m i next e s = place_or m i next e s (branch_target i s.stack)
 
 -- ---- channels
 
--- which channel an operation names, or what is known of the registers that are used
-unfoldable pub channel_by : Op → Stack Known → Text
-channel_by StartProcess stack = registers_found AAndB stack
-channel_by op stack = channel_found stack.b.fact
-
--- the same of an instruction
+-- which channel an instruction names, or what is known of the registers that are used
 unfoldable pub end_found : Instruction → Stack Known → Text
-end_found (Operate op) stack = channel_by op stack
+end_found (Operate StartProcess) stack = registers_found AAndB stack
+end_found (Operate op) stack = channel_found stack.b.fact
 end_found i stack = registers_found All stack
 
 -- the lengths of a message and of those of its channel, or what is known of the registers that are used

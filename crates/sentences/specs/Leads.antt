@@ -4,7 +4,6 @@ use Rattle.module_format.specs.Rows.{Fact}
 use Rattle.module_format.specs.declared.fact.Fact.TheVariants.{Number}
 use Rattle.module_format.specs.declared.stack.Stack.{Stack}
 use Rattle.module_format.specs.Contents.{Contents, Label, label_at}
-use Rattle.machine_state.specs.declared.op.Op.{Op}
 use Rattle.machine_state.specs.declared.op.Op.TheVariants.{LoopEnd}
 use Rattle.machine_state.specs.declared.instruction.Instruction.{Instruction}
 use Rattle.machine_state.specs.declared.instruction.Instruction.TheVariants.{Jump, ConditionalJump, Operate}
@@ -26,15 +25,11 @@ abbrev pub turns_back : Fact → Option Lead
 turns_back (Number lo hi) = if int_le (pos 1) lo then lead Jumps (pos 0 -ℤ lo) else None
 turns_back fact = None
 
-unfoldable pub lead_by : Op → Stack Known → Option Lead
-lead_by LoopEnd stack = turns_back stack.a.fact
-lead_by op stack = None
-
 -- where an instruction leads, if it is to one label
 unfoldable pub lead_of : Instruction → ℤ → Stack Known → Option Lead
 lead_of Jump e stack = lead Jumps e
 lead_of ConditionalJump e stack = lead Tests e
-lead_of (Operate op) e stack = lead_by op stack
+lead_of (Operate LoopEnd) e stack = turns_back stack.a.fact
 lead_of i e stack = None
 
 -- what a label wants, and what is known

@@ -1,11 +1,9 @@
 -- Sums and differences that may not fit a word.
 use Rattle.std.specs.Prelude.{ℤ, pos, ◌+ℤ◌, ◌-ℤ◌, ◌*ℤ◌, Option, Some, None}
-use Rattle.word_arithmetic.specs.declared.binary.Binary.{Binary as TwoNumbers}
 use Rattle.word_arithmetic.specs.declared.binary.Binary.TheVariants as binary
 use Rattle.module_format.specs.Rows.{Fact}
 use Rattle.module_format.specs.declared.fact.Fact.TheVariants.{Number}
 use Rattle.module_format.specs.declared.stack.Stack.{Stack}
-use Rattle.machine_state.specs.declared.op.Op.{Op}
 use Rattle.machine_state.specs.declared.op.Op.TheVariants.{Binary}
 use Rattle.machine_state.specs.declared.instruction.Instruction.{Instruction}
 use Rattle.machine_state.specs.declared.instruction.Instruction.TheVariants.{WithConstant, LoadNonLocalPointer}
@@ -31,25 +29,10 @@ abbrev pub difference_of : Fact → Fact → Option RangeText
 difference_of (Number lo hi) (Number low high) = range_from (low -ℤ hi) (high -ℤ lo)
 difference_of fact other = None
 
--- a sum with a constant
-unfoldable pub result_with : TwoNumbers → Fact → ℤ → Option RangeText
-result_with binary.Add fact e = moved fact e
-result_with op fact e = None
-
--- a checked sum or difference
-unfoldable pub result_of_two : TwoNumbers → Stack Known → Option RangeText
-result_of_two binary.Add stack = sum_of stack.a.fact stack.b.fact
-result_of_two binary.Subtract stack = difference_of stack.a.fact stack.b.fact
-result_of_two op stack = None
-
--- the same by an operation
-unfoldable pub result_by : Op → Stack Known → Option RangeText
-result_by (Binary op) stack = result_of_two op stack
-result_by op stack = None
-
 -- the range of a checked sum or difference
 unfoldable pub result_of : Instruction → ℤ → Stack Known → Option RangeText
-result_of (WithConstant op) e stack = result_with op stack.a.fact e
+result_of (WithConstant binary.Add) e stack = moved stack.a.fact e
 result_of LoadNonLocalPointer e stack = moved stack.a.fact (pos 4 *ℤ e)
-result_of (Operate op) e stack = result_by op stack
+result_of (Operate (Binary binary.Add)) e stack = sum_of stack.a.fact stack.b.fact
+result_of (Operate (Binary binary.Subtract)) e stack = difference_of stack.a.fact stack.b.fact
 result_of i e stack = None

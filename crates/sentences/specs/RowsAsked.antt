@@ -5,7 +5,6 @@ use Rattle.prefix_decoder.specs.declared.decoding.Instr.{Instr}
 use Rattle.module_format.specs.declared.stack.Stack.{Stack}
 use Rattle.module_format.specs.Contents.{Contents, Par, Branch}
 use Rattle.certificate.specs.Branches.{Forked, branch_at, numbered_branch}
-use Rattle.machine_state.specs.declared.op.Op.{Op}
 use Rattle.machine_state.specs.declared.op.Op.TheVariants.{EndProcess, AlternationEnd}
 use Rattle.machine_state.specs.declared.instruction.Instruction.{Instruction}
 use Rattle.machine_state.specs.declared.instruction.Instruction.TheVariants.{Operate}
@@ -53,14 +52,9 @@ abbrev pub started_par : Contents → ℕ → Option ℤ → Option ℕ
 started_par m next None = None
 started_par m next (Some distance) = joined_at (branch_at m (target next distance))
 
--- where the PAR goes on that an operation ends
-unfoldable pub ended_by : Contents → Op → ℕ → Option ℕ
-ended_by m EndProcess context = joined_by (numbered_branch m context)
-ended_by m op context = None
-
--- the same of an instruction
+-- where the PAR goes on that an instruction ends
 unfoldable pub ended_par : Contents → Instruction → ℕ → Option ℕ
-ended_par m (Operate op) context = ended_by m op context
+ended_par m (Operate EndProcess) context = joined_by (numbered_branch m context)
 ended_par m i context = None
 
 -- the first, if there is one, or else the second
@@ -86,14 +80,9 @@ rows_of m (Some at) = rows_text m at
 abbrev pub exit_rows : Contents → ℕ → Guard → Text
 exit_rows m next guard = rows_at m next guard.exit
 
--- the rows where the guards of an alternation lead that an operation ends
-unfoldable pub exits_by : Contents → Op → ℕ → State → Text
-exits_by m AlternationEnd next s = flat_map (exit_rows m next) s.guards
-exits_by m op next s = []
-
--- the same of an instruction
+-- the rows where the guards of an alternation lead that an instruction ends
 unfoldable pub exits_of : Contents → Instruction → ℕ → State → Text
-exits_of m (Operate op) next s = exits_by m op next s
+exits_of m (Operate AlternationEnd) next s = flat_map (exit_rows m next) s.guards
 exits_of m i next s = []
 
 -- ---- all

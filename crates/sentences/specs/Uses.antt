@@ -50,13 +50,8 @@ used Call = All
 used (Operate op) = used_by op
 used i = Nothing
 
--- what an operation uses for a PAR
-unfoldable pub used_by_par : Op → Uses
-used_by_par EndProcess = A
-used_by_par StartProcess = AAndB
-used_by_par op = Nothing
-
--- the same of an instruction
+-- what an instruction uses for a PAR
 unfoldable pub used_for_pars : Instruction → Uses
-used_for_pars (Operate op) = used_by_par op
+used_for_pars (Operate EndProcess) = A
+used_for_pars (Operate StartProcess) = AAndB
 used_for_pars i = Nothing

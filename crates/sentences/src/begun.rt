@@ -6,8 +6,7 @@ ghost use Rattle.module_format.specs.Contents.{contents_of};
 ghost use Rattle.certificate.specs.Starts.{procedure_at};
 ghost use Rattle.certificate.specs.Branches.{branch_at};
 ghost use Rattle.states.specs.Views.{state_of};
-ghost use Rattle.sentences.specs.Begun.{begun_text, procedure_begun, branch_begun, branch_by};
-ghost use Rattle.sentences.specs.Begun.{branch_target};
+ghost use Rattle.sentences.specs.Begun.{begun_text, procedure_begun, branch_begun, branch_target};
 ghost use Rattle.sentences.specs.Begun.{branch_part, row_target};
 
 use crate::leads::target;
@@ -55,24 +54,13 @@ fn push_branch_begun(text: &mut String, module: &Module, at: u32) -> Result<(), 
     }
 }
 
-/// How far a branch is that an operation starts.
-#[tactic(auto, unfolding(crate::specs::Begun::branch_by))]
-fn branch_by(op: Op, stack: Stack<Known>) -> Option<i32>
-    ensures { result ≡ branch_by op stack }
-{
-    match op {
-        Op::StartProcess => constant_of(stack.b.fact),
-        _ => None,
-    }
-}
-
 /// How far a branch is that an instruction starts.
 #[tactic(auto, unfolding(crate::specs::Begun::branch_target))]
 pub(crate) fn branch_target(instruction: Instruction, stack: Stack<Known>) -> Option<i32>
     ensures { result ≡ branch_target instruction stack }
 {
     match instruction {
-        Instruction::Operate(op) => branch_by(op, stack),
+        Instruction::Operate(Op::StartProcess) => constant_of(stack.b.fact),
         _ => None,
     }
 }
@@ -101,7 +89,6 @@ pub(crate) fn row_target(instruction: Instruction, operand: i32, stack: Stack<Kn
 {
     match instruction {
         Instruction::Call => Some(operand),
-        Instruction::Operate(op) => branch_by(op, stack),
-        _ => None,
+        _ => branch_target(instruction, stack),
     }
 }

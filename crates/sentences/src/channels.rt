@@ -1,4 +1,5 @@
 //! The channels that words name, and the lengths of their messages.
+#![tactic(auto, unfolding(crate::proofs::Opening::channels_opens))]
 
 ghost use Rattle.std.specs.Prelude.{◌≡◌, ◌++◌, OnOk, string_bytes};
 ghost use Rattle.module_format.specs.Keeping.{Keeps};
@@ -17,7 +18,6 @@ use states::{State, WordFact};
 use std::alloc::AllocError;
 
 /// Appends which channel a word names.
-#[tactic(auto, unfolding(crate::specs::Channels::named_part))]
 pub(crate) fn push_named(text: &mut String, channel: Option<EndKind>) -> Result<(), AllocError>
     ensures { OnOk result (string_bytes text.new ≡ string_bytes text.old ++ named_part channel) }
 {
@@ -28,7 +28,6 @@ pub(crate) fn push_named(text: &mut String, channel: Option<EndKind>) -> Result<
 }
 
 /// Appends what B is.
-#[tactic(auto, unfolding(crate::specs::Channels::b_part))]
 fn push_b(text: &mut String, fact: Fact) -> Result<(), AllocError>
     ensures { OnOk result (string_bytes text.new ≡ string_bytes text.old ++ b_part fact) }
 {
@@ -37,7 +36,6 @@ fn push_b(text: &mut String, fact: Fact) -> Result<(), AllocError>
 }
 
 /// Appends what B is, and which channel that is.
-#[tactic(auto, unfolding(crate::specs::Channels::channel_found))]
 pub(crate) fn push_channel(text: &mut String, fact: Fact) -> Result<(), AllocError>
     ensures { OnOk result (string_bytes text.new ≡ string_bytes text.old ++ channel_found fact) }
 {
@@ -47,7 +45,6 @@ pub(crate) fn push_channel(text: &mut String, fact: Fact) -> Result<(), AllocErr
 }
 
 /// Appends what A is.
-#[tactic(auto, unfolding(crate::specs::Channels::a_part))]
 fn push_a(text: &mut String, fact: Fact) -> Result<(), AllocError>
     ensures { OnOk result (string_bytes text.new ≡ string_bytes text.old ++ a_part fact) }
 {
@@ -56,7 +53,6 @@ fn push_a(text: &mut String, fact: Fact) -> Result<(), AllocError>
 }
 
 /// Appends how many bytes the messages of a channel have.
-#[tactic(auto, unfolding(crate::specs::Channels::bytes_part))]
 fn push_bytes(text: &mut String, kind: EndKind, length: Option<u32>) -> Result<(), AllocError>
     ensures { OnOk result (string_bytes text.new ≡ string_bytes text.old ++ bytes_part kind length) }
 {
@@ -90,7 +86,6 @@ fn push_length_part(
 }
 
 /// Appends what A is, and how many bytes the messages of the channel in B have.
-#[tactic(auto, unfolding(crate::specs::Channels::length_found))]
 pub(crate) fn push_length(
     text: &mut String,
     module: &Module,

@@ -4,20 +4,17 @@ ghost use Rattle.std.specs.Prelude.{◌≡◌, ◌<◌, ◌^◌, pos, ◌+ℤ◌
 ghost use Rattle.certificate.specs.Branches.{branch_at};
 ghost use Rattle.module_format.specs.Contents.{contents_of};
 ghost use Rattle.states.specs.Views.{state_of};
-ghost use Rattle.sentences.specs.Found.{registers_found, bytes_words, bytes_found, unknown_found, number_found, offset_found};
-ghost use Rattle.sentences.specs.Found.{move_found, pointer_by, pointer_found};
-ghost use Rattle.sentences.specs.Found.{signed_text, phrase, target_words, target_found, word_words, word_of};
-ghost use Rattle.sentences.specs.Found.{word_found};
-ghost use Rattle.sentences.specs.Found.{mode_found, count_found, guards_found, after_mode, more_registers};
-ghost use Rattle.sentences.specs.Found.{order_found};
-ghost use Rattle.sentences.specs.Found.{par_found, way_by, way_found, context_found, depth_found, word_zero_found};
+ghost use Rattle.sentences.specs.Found.{registers_found, bytes_words, bytes_found, unknown_found, number_found};
+ghost use Rattle.sentences.specs.Found.{offset_found, move_found, pointer_found, signed_text, phrase};
+ghost use Rattle.sentences.specs.Found.{target_words, target_found, word_words, word_of, word_found, mode_found};
+ghost use Rattle.sentences.specs.Found.{count_found, guards_found, after_mode, more_registers, order_found, par_found};
+ghost use Rattle.sentences.specs.Found.{way_found, context_found, depth_found, word_zero_found};
 ghost use Rattle.sentences.specs.Found.{first_word_found, return_found, call_found, label_found, payment_found};
-ghost use Rattle.sentences.specs.Found.{budget_found, found_by, found};
-ghost use Rattle.sentences.specs.Found.{channel_by, end_found, message_found, started_part, start_found, in_context, callee_found};
-ghost use Rattle.sentences.specs.Found.{call_target, lo_words, hi_words, bounds_text, bounds_part, place_found};
-ghost use Rattle.sentences.specs.Found.{workspace_words, branch_started, workspace_text, workspace_found};
+ghost use Rattle.sentences.specs.Found.{budget_found, found_by, found, end_found, message_found};
+ghost use Rattle.sentences.specs.Found.{started_part, start_found, in_context, callee_found, call_target, lo_words};
+ghost use Rattle.sentences.specs.Found.{hi_words, bounds_text, bounds_part, place_found, workspace_words};
+ghost use Rattle.sentences.specs.Found.{branch_started, workspace_text, workspace_found, own_word_found, regions_found};
 ghost use Rattle.module_format.specs.Contexts.{context_at};
-ghost use Rattle.sentences.specs.Found.{own_word_found, regions_found};
 
 use crate::begun::{branch_target, push_branch_part, push_procedure_begun};
 use crate::channels::{push_channel, push_length};
@@ -140,17 +137,6 @@ fn push_move(text: &mut String, state: &State) -> Result<(), AllocError>
     Ok(())
 }
 
-/// Appends what is known of the registers that an operation uses.
-#[tactic(auto, unfolding(crate::specs::Found::pointer_by))]
-fn push_pointer_by(text: &mut String, op: Op, state: &State) -> Result<(), AllocError>
-    ensures { OnOk result (string_bytes text.new ≡ string_bytes text.old ++ pointer_by op (state_of state.now)) }
-{
-    match op {
-        Op::Move => push_move(text, state),
-        _ => push_registers(text, used_by(op), state.stack),
-    }
-}
-
 /// Appends the offset of a pointer that is made, or else what is known of the registers that are used.
 #[tactic(auto, unfolding(crate::specs::Found::pointer_found))]
 fn push_pointer(text: &mut String, spot: Spot, state: &State) -> Result<(), AllocError>
@@ -159,7 +145,7 @@ fn push_pointer(text: &mut String, spot: Spot, state: &State) -> Result<(), Allo
 {
     match spot.instruction {
         Instruction::LoadLocalPointer => push_offset(text, state.depth, spot.instr.operand),
-        Instruction::Operate(op) => push_pointer_by(text, op, state),
+        Instruction::Operate(Op::Move) => push_move(text, state),
         _ => push_registers(text, used(spot.instruction), state.stack),
     }
 }
@@ -373,18 +359,7 @@ fn push_regions(
     Ok(())
 }
 
-/// Appends what an operation leads by: guards, or registers.
-#[tactic(auto, unfolding(crate::specs::Found::way_by))]
-fn push_way_by(text: &mut String, op: Op, state: &State) -> Result<(), AllocError>
-    ensures { OnOk result (string_bytes text.new ≡ string_bytes text.old ++ way_by op (state_of state.now)) }
-{
-    match op {
-        Op::AlternationEnd => push_guards(text, state),
-        _ => push_registers(text, used_by(op), state.stack),
-    }
-}
-
-/// Appends where an instruction leads, or by what.
+/// Appends where an instruction leads, or by what: guards, or registers.
 #[tactic(auto, unfolding(crate::specs::Found::way_found))]
 fn push_way(text: &mut String, spot: Spot, state: &State) -> Result<(), AllocError>
     requires { spot.next < 2 ^ 32 }
@@ -392,7 +367,8 @@ fn push_way(text: &mut String, spot: Spot, state: &State) -> Result<(), AllocErr
         ++ way_found spot.instruction spot.next spot.instr.operand (state_of state.now)) }
 {
     match spot.instruction {
-        Instruction::Operate(op) => push_way_by(text, op, state),
+        Instruction::Operate(Op::AlternationEnd) => push_guards(text, state),
+        Instruction::Operate(op) => push_registers(text, used_by(op), state.stack),
         _ => push_target(text, spot.next, spot.instr.operand),
     }
 }
@@ -675,17 +651,6 @@ fn push_budget(
     Ok(())
 }
 
-/// Appends which channel an operation names, or what is known of the registers that are used.
-#[tactic(auto, unfolding(crate::specs::Found::channel_by))]
-fn push_channel_by(text: &mut String, op: Op, stack: Stack<Known>) -> Result<(), AllocError>
-    ensures { OnOk result (string_bytes text.new ≡ string_bytes text.old ++ channel_by op stack) }
-{
-    match op {
-        Op::StartProcess => push_registers(text, Uses::AAndB, stack),
-        _ => push_channel(text, stack.b.fact),
-    }
-}
-
 /// Appends which channel an instruction names, or what is known of the registers that are used.
 #[tactic(auto, unfolding(crate::specs::Found::end_found))]
 fn push_end(
@@ -696,7 +661,8 @@ fn push_end(
     ensures { OnOk result (string_bytes text.new ≡ string_bytes text.old ++ end_found instruction stack) }
 {
     match instruction {
-        Instruction::Operate(op) => push_channel_by(text, op, stack),
+        Instruction::Operate(Op::StartProcess) => push_registers(text, Uses::AAndB, stack),
+        Instruction::Operate(_) => push_channel(text, stack.b.fact),
         _ => push_registers(text, Uses::All, stack),
     }
 }

@@ -1,4 +1,5 @@
 //! What a label wants that is not known.
+#![tactic(auto, unfolding(crate::proofs::Opening::lacks_opens))]
 
 ghost use Rattle.std.specs.Prelude.{◌≡◌, Some};
 ghost use Rattle.module_format.specs.Contents.{contents_of, label_of};
@@ -102,7 +103,6 @@ fn either(first: Option<Lack>, second: Option<Lack>) -> Option<Lack>
 }
 
 /// The context, if it is not the one that is wanted.
-#[tactic(auto, unfolding(crate::specs::Lacks::context_lack))]
 fn context_lack(tables: &Tables<'_>, found: u32, wanted: u32) -> Option<Lack>
     ensures { result ≡ context_lack (contents_of tables.now) found wanted }
 {
@@ -124,7 +124,6 @@ fn context_lack(tables: &Tables<'_>, found: u32, wanted: u32) -> Option<Lack>
 }
 
 /// The depth, if it is not the one that is wanted.
-#[tactic(auto, unfolding(crate::specs::Lacks::depth_lack))]
 fn depth_lack(found: i32, wanted: i32) -> Option<Lack>
     ensures { result ≡ depth_lack found wanted }
 {
@@ -139,7 +138,6 @@ fn depth_lack(found: i32, wanted: i32) -> Option<Lack>
 }
 
 /// The mode, if the process is in the middle of something.
-#[tactic(auto, unfolding(crate::specs::Lacks::mode_lack))]
 fn mode_lack(way: Way, found: Mode) -> Option<Lack>
     ensures { result ≡ mode_lack way found }
 {
@@ -154,7 +152,6 @@ fn mode_lack(way: Way, found: Mode) -> Option<Lack>
 }
 
 /// Where the process is, if it is not where the label is.
-#[tactic(auto, unfolding(crate::specs::Lacks::place_lack))]
 fn place_lack(tables: &Tables<'_>, way: Way, state: &State, row: &LabelRow) -> Option<Lack>
     ensures { result ≡ place_lack (contents_of tables.now) way (state_of state.now) (label_of row.now) }
 {
@@ -164,7 +161,6 @@ fn place_lack(tables: &Tables<'_>, way: Way, state: &State, row: &LabelRow) -> O
 }
 
 /// What is known of a register, if more is wanted.
-#[tactic(auto, unfolding(crate::specs::Lacks::register_lack))]
 fn register_lack(subject: Subject, known: Fact, wanted: Fact) -> Option<Lack>
     ensures { result ≡ register_lack subject known wanted }
 {
@@ -183,7 +179,6 @@ fn register_lack(subject: Subject, known: Fact, wanted: Fact) -> Option<Lack>
 }
 
 /// What is known of the first register of which more is wanted.
-#[tactic(auto, unfolding(crate::specs::Lacks::stack_lack))]
 fn stack_lack(way: Way, stack: Stack<Known>, wanted: Stack<Fact>) -> Option<Lack>
     ensures { result ≡ stack_lack way stack wanted }
 {
@@ -194,7 +189,6 @@ fn stack_lack(way: Way, stack: Stack<Known>, wanted: Stack<Fact>) -> Option<Lack
 }
 
 /// What is known of a word, if more is wanted.
-#[tactic(auto, unfolding(crate::specs::Lacks::fact_lack))]
 fn fact_lack(word: i64, known: WordFact, wanted: WordFact) -> Option<Lack>
     requires { LoopFits known }
     ensures { result ≡ fact_lack word known wanted }
@@ -210,7 +204,6 @@ fn fact_lack(word: i64, known: WordFact, wanted: WordFact) -> Option<Lack>
 }
 
 /// What is known of the word of this number of an entry, if more is wanted.
-#[tactic(auto, unfolding(crate::specs::Lacks::word_lack))]
 fn word_lack(way: Way, state: &State, entry: &Entry, number: u32) -> Option<Lack>
     ensures { result ≡ word_lack (seen_in way (state_of state.now)) entry.now number }
 {
@@ -244,7 +237,6 @@ fn is_whole(way: Way, state: &State, entry: &Entry) -> bool
 }
 
 /// The loop of an entry, if half of it is known.
-#[tactic(auto, unfolding(crate::specs::Lacks::half_lack))]
 fn half_lack(way: Way, state: &State, entry: &Entry) -> Option<Lack>
     ensures { result ≡ half_lack (seen_in way (state_of state.now)) entry.now }
 {
@@ -259,7 +251,6 @@ fn half_lack(way: Way, state: &State, entry: &Entry) -> Option<Lack>
 }
 
 /// What is known of the words of an entry, if more is wanted.
-#[tactic(auto, unfolding(crate::specs::Lacks::entry_lack))]
 fn entry_lack(way: Way, state: &State, entry: &Entry) -> Option<Lack>
     ensures { result ≡ entry_lack (seen_in way (state_of state.now)) entry.now }
 {
@@ -278,7 +269,6 @@ fn entries_lack(way: Way, state: &State, entries: &[Entry]) -> Option<Lack>
 }
 
 /// What a label wants first that is not known.
-#[tactic(auto, unfolding(crate::specs::Lacks::lack_of))]
 pub(crate) fn lack_of(tables: &Tables<'_>, way: Way, state: &State, row: &LabelRow) -> Option<Lack>
     ensures { result ≡ lack_of (contents_of tables.now) way (state_of state.now) (label_of row.now) }
 {

@@ -4,8 +4,7 @@ ghost use Rattle.std.specs.Prelude.{◌≡◌, ◌++◌, OnOk, string_bytes};
 ghost use Rattle.machine_state.specs.LocalStep.{target};
 ghost use Rattle.module_format.specs.Contents.{contents_of, label_at, label_of};
 ghost use Rattle.states.specs.Views.{state_of};
-ghost use Rattle.sentences.specs.Leads.{turns_back, lead_by, lead_of, lack_text, lack_part, lack_at, lead_lack};
-ghost use Rattle.sentences.specs.Leads.{after_way};
+ghost use Rattle.sentences.specs.Leads.{turns_back, lead_of, lack_text, lack_part, lack_at, lead_lack, after_way};
 
 use crate::lacks::{Lack, lack_of};
 use crate::ways::Way;
@@ -35,17 +34,6 @@ fn turns_back(fact: Fact) -> Option<Lead>
     }
 }
 
-/// Where an operation leads, if it is to one label.
-#[tactic(auto, unfolding(crate::specs::Leads::lead_by))]
-fn lead_by(op: Op, stack: Stack<Known>) -> Option<Lead>
-    ensures { result ≡ lead_by op stack }
-{
-    match op {
-        Op::LoopEnd => turns_back(stack.a.fact),
-        _ => None,
-    }
-}
-
 /// Where an instruction leads, if it is to one label.
 #[tactic(auto, unfolding(crate::specs::Leads::lead_of))]
 pub(crate) fn lead_of(instruction: Instruction, operand: i32, stack: Stack<Known>) -> Option<Lead>
@@ -60,7 +48,7 @@ pub(crate) fn lead_of(instruction: Instruction, operand: i32, stack: Stack<Known
             way: Way::Tests,
             distance: operand,
         }),
-        Instruction::Operate(op) => lead_by(op, stack),
+        Instruction::Operate(Op::LoopEnd) => turns_back(stack.a.fact),
         _ => None,
     }
 }

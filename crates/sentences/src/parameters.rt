@@ -1,6 +1,7 @@
 //! The parameters of a call of which a rule speaks: what each is, and what it is passed.
+#![tactic(auto, unfolding(crate::proofs::Opening::parameters_opens))]
 
-ghost use Rattle.std.specs.Prelude.{◌≡◌, ◌++◌, OnOk, Some, string_bytes};
+ghost use Rattle.std.specs.Prelude.{◌≡◌, ◌++◌, OnOk, string_bytes};
 ghost use Rattle.module_format.specs.Contents.{contents_of, procedure_of};
 ghost use Rattle.certificate.specs.Starts.{Entered, procedure_at};
 ghost use Rattle.states.specs.Rows.{LoopFits};
@@ -21,7 +22,6 @@ use rulings::channels::{channel_of, has_direction};
 use rulings::pointers::are_near;
 use states::{Rule, State, WordFact, implies};
 use std::alloc::AllocError;
-use std::fmt;
 
 /// The caller's word that is a word of the callee's frame.
 fn callee_word(depth: i32, word: i32) -> i64
@@ -103,7 +103,6 @@ fn breaks_channel(kind: ParameterKind, fact: WordFact) -> bool
 }
 
 /// Whether what a parameter is passed breaks the rule by itself.
-#[tactic(auto, unfolding(crate::specs::Parameters::breaks_alone))]
 fn breaks_alone(rule: Rule, kind: ParameterKind, fact: WordFact) -> bool
     requires { LoopFits fact }
     ensures { result ≡ breaks_alone rule kind fact }
@@ -137,7 +136,6 @@ fn is_channels(kind: ParameterKind) -> bool
 }
 
 /// Whether the rule asks what is lent, or which channels are passed.
-#[tactic(auto, unfolding(crate::specs::Parameters::is_asked))]
 fn is_asked(rule: Rule, kind: ParameterKind, fact: WordFact) -> bool
     ensures { result ≡ is_asked rule kind fact }
 {
@@ -180,7 +178,6 @@ fn some_break(rule: Rule, state: &State, parameters: &[Parameter]) -> bool
 }
 
 /// Appends the number of a parameter, and the word in which it is passed.
-#[tactic(auto, unfolding(crate::specs::Parameters::parameter_head))]
 fn push_head(text: &mut String, number: usize, word: u16) -> Result<(), AllocError>
     ensures { OnOk result (string_bytes text.new ≡ string_bytes text.old ++ parameter_head number word) }
 {
@@ -188,7 +185,6 @@ fn push_head(text: &mut String, number: usize, word: u16) -> Result<(), AllocErr
 }
 
 /// The directions of the ends that a parameter takes.
-#[tactic(auto, unfolding(crate::specs::Parameters::directions_text))]
 fn directions_text(ends: Ends) -> &'static str
     ensures { result.now ≡ directions_text ends }
 {
@@ -201,48 +197,39 @@ fn directions_text(ends: Ends) -> &'static str
     "in and out"
 }
 
-/// What a parameter wants.
-#[derive(Clone, Copy)]
-struct WantedText(ParameterKind);
-
-impl fmt::Display for WantedText {
-    ghost output = { λ kind. Some (kind_wanted kind.0) };
-
-    fn fmt<W: fmt::Write>(&self, f: &mut fmt::Formatter<W>) -> fmt::Result {
-        match self.0 {
-            ParameterKind::Value { lo, hi } => write!(f, "{}", range(lo, hi)),
-            ParameterKind::ReadRegion { size, lo, hi } => {
-                let words = range(lo, hi);
-                write!(f, "{size} bytes of {words} to read")
-            }
-            ParameterKind::WrittenRegion { size, lo, hi } => {
-                let words = range(lo, hi);
-                write!(f, "{size} bytes of {words} to write")
-            }
-            ParameterKind::Channels {
-                count,
-                length,
-                ends,
-            } => {
-                let directions = directions_text(ends);
-                write!(f, "{count} channels {directions} of {length} bytes")
-            }
+/// Appends what a parameter wants.
+fn push_wanted(text: &mut String, kind: ParameterKind) -> Result<(), AllocError>
+    ensures { OnOk result (string_bytes text.new ≡ string_bytes text.old ++ kind_wanted kind) }
+{
+    match kind {
+        ParameterKind::Value { lo, hi } => write!(text, "{}", range(lo, hi)),
+        ParameterKind::ReadRegion { size, lo, hi } => {
+            write!(text, "{size} bytes of {} to read", range(lo, hi))
+        }
+        ParameterKind::WrittenRegion { size, lo, hi } => {
+            write!(text, "{size} bytes of {} to write", range(lo, hi))
+        }
+        ParameterKind::Channels {
+            count,
+            length,
+            ends,
+        } => {
+            let directions = directions_text(ends);
+            write!(text, "{count} channels {directions} of {length} bytes")
         }
     }
 }
 
 /// Appends what a parameter wants, and what it is passed.
-#[tactic(auto, unfolding(crate::specs::Parameters::passed_text))]
 fn push_passed(text: &mut String, kind: ParameterKind, fact: Fact) -> Result<(), AllocError>
     ensures { OnOk result (string_bytes text.new ≡ string_bytes text.old ++ passed_text kind fact) }
 {
-    let wanted = WantedText(kind);
-    let passed = FactText(fact);
-    write!(text, " wants {wanted} and is passed {passed}")
+    text.push_str(" wants ")?;
+    push_wanted(text, kind)?;
+    write!(text, " and is passed {}", FactText(fact))
 }
 
 /// Appends which channel that is.
-#[tactic(auto, unfolding(crate::specs::Parameters::channel_part))]
 fn push_channel_part(
     text: &mut String,
     kind: ParameterKind,
@@ -268,7 +255,6 @@ fn push_kind(text: &mut String, kind: ParameterKind, fact: WordFact) -> Result<(
 }
 
 /// Appends which parameter it is, what it wants, and what it is passed.
-#[tactic(auto, unfolding(crate::specs::Parameters::told_text))]
 fn push_told(
     text: &mut String,
     number: usize,
@@ -325,7 +311,6 @@ fn push_parameters(
 }
 
 /// Appends which procedure is called.
-#[tactic(auto, unfolding(crate::specs::Parameters::callee_text))]
 fn push_callee(text: &mut String, tables: &Tables<'_>, number: u32) -> Result<(), AllocError>
     ensures { OnOk result (string_bytes text.new
         ≡ string_bytes text.old ++ callee_text (contents_of tables.now) number) }
@@ -335,7 +320,6 @@ fn push_callee(text: &mut String, tables: &Tables<'_>, number: u32) -> Result<()
 }
 
 /// Appends which procedure is called, and the parameters of which the rule speaks.
-#[tactic(auto, unfolding(crate::specs::Parameters::arguments_text))]
 fn push_arguments_of(
     text: &mut String,
     module: &Module,
@@ -371,7 +355,6 @@ pub(crate) fn push_arguments(
 }
 
 /// Whether the rule speaks of what parameters are passed.
-#[tactic(auto, unfolding(crate::specs::Parameters::is_of_parameters))]
 fn is_of_parameters(rule: Rule) -> bool
     ensures { result ≡ is_of_parameters rule }
 {

@@ -1,4 +1,5 @@
 //! Parts of sentences: which word, guard or row is the reason.
+#![tactic(auto, unfolding(crate::proofs::Opening::parts_opens))]
 
 ghost use Rattle.std.specs.Prelude.{◌≡◌, ◌++◌, OnOk, string_bytes};
 ghost use Rattle.states.specs.Views.{state_of};
@@ -7,33 +8,33 @@ ghost use Rattle.sentences.specs.Parts.{turn_part, word_part, next_part, registe
 use found_parts::{GuardRegisters, KnownWord, NextGuard, Turn, next_guard};
 use machine_state::{Instruction, Op};
 use module_format::Stack;
+use state_texts::WordText;
 use states::{Known, State};
 use std::alloc::AllocError;
 
 /// Appends what a turn costs, and what it may cost.
-#[tactic(auto, unfolding(crate::specs::Parts::turn_part))]
 pub(crate) fn push_turn(text: &mut String, turn: Option<Turn>) -> Result<(), AllocError>
     ensures { OnOk result (string_bytes text.new ≡ string_bytes text.old ++ turn_part turn) }
 {
     match turn {
-        Some(turn) => write!(text, "; {turn}"),
+        Some(Turn { cost, weight }) => {
+            write!(text, "; a turn costs {cost} and the weight is {weight}")
+        }
         None => text.push_str(""),
     }
 }
 
 /// Appends which word is no number.
-#[tactic(auto, unfolding(crate::specs::Parts::word_part))]
 pub(crate) fn push_word(text: &mut String, word: Option<KnownWord>) -> Result<(), AllocError>
     ensures { OnOk result (string_bytes text.new ≡ string_bytes text.old ++ word_part word) }
 {
     match word {
-        Some(word) => write!(text, ": {word}"),
+        Some(KnownWord { word, fact }) => write!(text, ": word {word} is {}", WordText(fact)),
         None => text.push_str(""),
     }
 }
 
 /// Appends which guard is next.
-#[tactic(auto, unfolding(crate::specs::Parts::next_part))]
 fn push_next(text: &mut String, next: Option<NextGuard>) -> Result<(), AllocError>
     ensures { OnOk result (string_bytes text.new ≡ string_bytes text.old ++ next_part next) }
 {
@@ -44,7 +45,6 @@ fn push_next(text: &mut String, next: Option<NextGuard>) -> Result<(), AllocErro
 }
 
 /// Appends the registers that are used for a guard.
-#[tactic(auto, unfolding(crate::specs::Parts::registers_part))]
 fn push_registers(text: &mut String, op: Op, stack: Stack<Known>) -> Result<(), AllocError>
     ensures { OnOk result (string_bytes text.new ≡ string_bytes text.old ++ registers_part op stack) }
 {
@@ -53,7 +53,6 @@ fn push_registers(text: &mut String, op: Op, stack: Stack<Known>) -> Result<(), 
 }
 
 /// Appends the registers that an operation uses for a guard, and which guard is next.
-#[tactic(auto, unfolding(crate::specs::Parts::guard_text))]
 fn push_guard_text(text: &mut String, op: Op, state: &State) -> Result<(), AllocError>
     ensures { OnOk result (string_bytes text.new ≡ string_bytes text.old ++ guard_text op (state_of state.now)) }
 {
@@ -63,7 +62,6 @@ fn push_guard_text(text: &mut String, op: Op, state: &State) -> Result<(), Alloc
 }
 
 /// Appends the registers that an instruction uses for a guard, and which guard is next.
-#[tactic(auto, unfolding(crate::specs::Parts::guard_part))]
 pub(crate) fn push_guard(
     text: &mut String,
     instruction: Instruction,

@@ -1,4 +1,5 @@
 //! What is asked of the number where an instruction leads.
+#![tactic(auto, unfolding(crate::specs::Payments::label_words, crate::specs::Payments::procedure_words, crate::specs::Payments::cost_text, crate::specs::Payments::label_text, crate::specs::Payments::asked_text))]
 
 ghost use Rattle.std.specs.Prelude.{◌≡◌, ◌++◌, OnOk, string_bytes};
 ghost use Rattle.machine_state.specs.LocalStep.{target};
@@ -21,7 +22,6 @@ use states::State;
 use std::alloc::AllocError;
 
 /// What is said of the cost of a label.
-#[tactic(auto, unfolding(crate::specs::Payments::label_words))]
 fn label_words() -> &'static str
     ensures { result.now ≡ label_words }
 {
@@ -29,7 +29,6 @@ fn label_words() -> &'static str
 }
 
 /// What is said of the cost of a procedure.
-#[tactic(auto, unfolding(crate::specs::Payments::procedure_words))]
 fn procedure_words() -> &'static str
     ensures { result.now ≡ procedure_words }
 {
@@ -37,7 +36,6 @@ fn procedure_words() -> &'static str
 }
 
 /// Appends words and a cost.
-#[tactic(auto, unfolding(crate::specs::Payments::cost_text))]
 fn push_cost(text: &mut String, words: &str, cost: u128) -> Result<(), AllocError>
     ensures { OnOk result (string_bytes text.new ≡ string_bytes text.old ++ cost_text words.now cost) }
 {
@@ -64,7 +62,6 @@ fn turn_at(spot: Spot, state: &State, asked: u128) -> Option<Turn>
 }
 
 /// Appends what a label costs, and where a turn ends what that costs.
-#[tactic(auto, unfolding(crate::specs::Payments::label_text))]
 fn push_label_cost(
     text: &mut String,
     spot: Spot,
@@ -128,7 +125,6 @@ fn push_lead_asked(
 }
 
 /// Appends what is asked where an instruction leads.
-#[tactic(auto, unfolding(crate::specs::Payments::asked_text))]
 pub(crate) fn push_asked(
     text: &mut String,
     module: &Module,

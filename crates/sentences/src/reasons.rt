@@ -1,13 +1,12 @@
 //! Why a module is refused.
-#![tactic(auto, unfolding(crate::specs::Sights::refused_text, crate::specs::Sights::line_text))]
+#![tactic(auto, unfolding(crate::proofs::Opening::reasons_opens))]
 
 ghost use Rattle.std.specs.Prelude.{◌≡◌, ◌+◌, ◌<◌, ◌^◌, ◌++◌, length, OnOk, string_bytes};
 ghost use Rattle.states.specs.Views.{state_of};
-ghost use Rattle.sentences.specs.Sights.{refused_text, is_at_entry, cost_at, entry_reason, unreached_reason};
-ghost use Rattle.sentences.specs.Sights.{reason, breach_text, hidden_text, ended_text, unspelled_text};
-ghost use Rattle.sentences.specs.Sights.{line_text, refused_head, within_text, unpaid_text, accepted_text};
-ghost use Rattle.sentences.specs.Sights.{rows_before};
-ghost use Rattle.sentences.specs.Sights.{past_text, run_past, within_words};
+ghost use Rattle.sentences.specs.Sights.{refused_text, is_at_entry, cost_at, entry_reason, unreached_reason, reason};
+ghost use Rattle.sentences.specs.Sights.{breach_text, hidden_text, ended_text, unspelled_text, line_text, refused_head};
+ghost use Rattle.sentences.specs.Sights.{within_text, unpaid_text, accepted_text, rows_before, past_text, run_past};
+ghost use Rattle.sentences.specs.Sights.{within_words};
 ghost use Rattle.sentences.specs.Seen.{seen};
 
 use crate::costs::label_cost;
@@ -23,7 +22,6 @@ use states::{Rule, State};
 use std::alloc::{AllocError, Global};
 
 /// Appends the number and the place of a refusal.
-#[tactic(auto, unfolding(crate::specs::Sights::refused_head))]
 fn push_refused(text: &mut String, rule: Rule, at: usize) -> Result<(), AllocError>
     ensures { OnOk result (string_bytes text.new ≡ string_bytes text.old ++ refused_head rule at) }
 {
@@ -52,7 +50,6 @@ fn cost_at(module: &Module, at: u32, state: &State) -> u128
 }
 
 /// Appends what a label costs, and the number that is left.
-#[tactic(auto, unfolding(crate::specs::Sights::unpaid_text))]
 fn push_unpaid(text: &mut String, cost: u128, number: u64) -> Result<(), AllocError>
     ensures { OnOk result (string_bytes text.new ≡ string_bytes text.old ++ unpaid_text cost number) }
 {
@@ -60,7 +57,6 @@ fn push_unpaid(text: &mut String, cost: u128, number: u64) -> Result<(), AllocEr
 }
 
 /// Appends why a state may not fall into an offset.
-#[tactic(auto, unfolding(crate::specs::Sights::entry_reason))]
 fn push_entry_reason(
     text: &mut String,
     module: &Module,
@@ -79,7 +75,6 @@ fn push_entry_reason(
 }
 
 /// Why an instruction is refused to which nothing leads.
-#[tactic(auto, unfolding(crate::specs::Sights::unreached_reason))]
 fn unreached_reason(broken: Rule) -> &'static str
     ensures { result.now ≡ unreached_reason broken }
 {
@@ -208,7 +203,6 @@ fn push_rows_and_reason(
 }
 
 /// Appends what is known of the words of the frame, the rows that are asked, and why the rule is broken.
-#[tactic(auto, unfolding(crate::specs::Sights::breach_text))]
 pub fn push_breach(
     text: &mut String,
     module: &Module,
@@ -228,7 +222,6 @@ pub fn push_breach(
 }
 
 /// What is said of a start within an instruction.
-#[tactic(auto, unfolding(crate::specs::Sights::within_words))]
 fn within_words() -> &'static str
     ensures { result.now ≡ within_words }
 {
@@ -236,7 +229,6 @@ fn within_words() -> &'static str
 }
 
 /// Appends that a row names an offset within the instruction at another one.
-#[tactic(auto, unfolding(crate::specs::Sights::within_text))]
 fn push_within(text: &mut String, at: usize) -> Result<(), AllocError>
     ensures { OnOk result (string_bytes text.new ≡ string_bytes text.old ++ within_text at) }
 {
@@ -279,7 +271,6 @@ pub fn push_unspelled(
 }
 
 /// Appends that a module is accepted.
-#[tactic(auto, unfolding(crate::specs::Sights::accepted_text))]
 fn push_accepted(text: &mut String, budget: u64) -> Result<(), AllocError>
     ensures { OnOk result (string_bytes text.new ≡ string_bytes text.old ++ accepted_text budget) }
 {
@@ -287,7 +278,6 @@ fn push_accepted(text: &mut String, budget: u64) -> Result<(), AllocError>
 }
 
 /// Appends the refusal of a state that runs past the end of the code.
-#[tactic(auto, unfolding(crate::specs::Sights::past_text))]
 fn push_past(text: &mut String, at: usize) -> Result<(), AllocError>
     ensures { OnOk result (string_bytes text.new ≡ string_bytes text.old ++ past_text at) }
 {
@@ -300,7 +290,6 @@ fn push_past(text: &mut String, at: usize) -> Result<(), AllocError>
 }
 
 /// Appends what is known of the words of the frame, and the same.
-#[tactic(auto, unfolding(crate::specs::Sights::run_past))]
 fn push_run_past(
     text: &mut String,
     module: &Module,
@@ -316,7 +305,6 @@ fn push_run_past(
 }
 
 /// Appends what is said at the end of the code.
-#[tactic(auto, unfolding(crate::specs::Sights::ended_text))]
 pub fn push_end(
     text: &mut String,
     module: &Module,

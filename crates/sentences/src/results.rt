@@ -1,8 +1,7 @@
 //! Sums and differences that may not fit a word.
 
 ghost use Rattle.std.specs.Prelude.{◌≡◌, negsuc, pos, ◌≤ℤ◌, ◌+ℤ◌, ◌-ℤ◌, ◌*ℤ◌};
-ghost use Rattle.sentences.specs.Results.{moved, sum_of, difference_of, result_with, result_of_two, result_by};
-ghost use Rattle.sentences.specs.Results.{result_of};
+ghost use Rattle.sentences.specs.Results.{moved, sum_of, difference_of, result_of};
 
 use fact_texts::RangeText;
 use machine_state::{Instruction, Op};
@@ -73,40 +72,6 @@ fn difference_of(fact: Fact, other: Fact) -> Option<RangeText>
     }
 }
 
-/// The range of a sum with a constant.
-#[tactic(auto, unfolding(crate::specs::Results::result_with))]
-fn result_with(op: Binary, fact: Fact, operand: i32) -> Option<RangeText>
-    ensures { result ≡ result_with op fact operand }
-{
-    match op {
-        Binary::Add => moved(fact, i64::from(operand)),
-        _ => None,
-    }
-}
-
-/// The range of a checked sum or difference.
-#[tactic(auto, unfolding(crate::specs::Results::result_of_two))]
-fn result_of_two(op: Binary, stack: Stack<Known>) -> Option<RangeText>
-    ensures { result ≡ result_of_two op stack }
-{
-    match op {
-        Binary::Add => sum_of(stack.a.fact, stack.b.fact),
-        Binary::Subtract => difference_of(stack.a.fact, stack.b.fact),
-        _ => None,
-    }
-}
-
-/// The range of a checked sum or difference by an operation.
-#[tactic(auto, unfolding(crate::specs::Results::result_by))]
-fn result_by(op: Op, stack: Stack<Known>) -> Option<RangeText>
-    ensures { result ≡ result_by op stack }
-{
-    match op {
-        Op::Binary(op) => result_of_two(op, stack),
-        _ => None,
-    }
-}
-
 /// The range of a checked sum or difference.
 #[tactic(auto, unfolding(crate::specs::Results::result_of))]
 pub(crate) fn result_of(
@@ -117,9 +82,12 @@ pub(crate) fn result_of(
     ensures { result ≡ result_of instruction operand stack }
 {
     match instruction {
-        Instruction::WithConstant(op) => result_with(op, stack.a.fact, operand),
+        Instruction::WithConstant(Binary::Add) => moved(stack.a.fact, i64::from(operand)),
         Instruction::LoadNonLocalPointer => moved(stack.a.fact, bytes_of(operand)),
-        Instruction::Operate(op) => result_by(op, stack),
+        Instruction::Operate(Op::Binary(Binary::Add)) => sum_of(stack.a.fact, stack.b.fact),
+        Instruction::Operate(Op::Binary(Binary::Subtract)) => {
+            difference_of(stack.a.fact, stack.b.fact)
+        }
         _ => None,
     }
 }

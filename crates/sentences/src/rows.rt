@@ -1,12 +1,12 @@
 //! The rows of what an instruction leads to, where they are asked.
+#![tactic(auto, unfolding(crate::proofs::Opening::rows_opens))]
 
 ghost use Rattle.std.specs.Prelude.{◌≡◌, ◌++◌, OnOk, string_bytes};
 ghost use Rattle.std.specs.List.{flat_map};
 ghost use Rattle.certificate.specs.Branches.{branch_at, numbered_branch};
 ghost use Rattle.states.specs.Views.{state_of};
-ghost use Rattle.sentences.specs.RowsAsked.{row_distance, rows_at, joined_at, joined_by, started_par, ended_by};
-ghost use Rattle.sentences.specs.RowsAsked.{ended_par, first_of, successor_of, rows_of, exit_rows, exits_by};
-ghost use Rattle.sentences.specs.RowsAsked.{exits_of};
+ghost use Rattle.sentences.specs.RowsAsked.{row_distance, rows_at, joined_at, joined_by, started_par};
+ghost use Rattle.sentences.specs.RowsAsked.{ended_par, first_of, successor_of, rows_of, exit_rows, exits_of};
 ghost use Rattle.sentences.specs.RowsAsked.{rows_behind, rows_there, rows_asked};
 
 use crate::begun::{branch_target, row_target};
@@ -20,7 +20,6 @@ use states::{Guard, Known, Rule, State};
 use std::alloc::AllocError;
 
 /// How far the row is that a rule asks of an instruction.
-#[tactic(auto, unfolding(crate::specs::RowsAsked::row_distance))]
 fn row_distance(
     rule: Rule,
     instruction: Instruction,
@@ -86,24 +85,12 @@ fn started_par(module: &Module, next: usize, distance: Option<i32>) -> Option<u3
     }
 }
 
-/// Where the PAR goes on that an operation ends.
-#[tactic(auto, unfolding(crate::specs::RowsAsked::ended_by))]
-fn ended_by(module: &Module, op: Op, context: u32) -> Option<u32>
-    ensures { result ≡ ended_by «module».now op context }
-{
-    match op {
-        Op::EndProcess => joined_by(module, context),
-        _ => None,
-    }
-}
-
 /// Where the PAR goes on that an instruction ends.
-#[tactic(auto, unfolding(crate::specs::RowsAsked::ended_par))]
 fn ended_par(module: &Module, instruction: Instruction, context: u32) -> Option<u32>
     ensures { result ≡ ended_par «module».now instruction context }
 {
     match instruction {
-        Instruction::Operate(op) => ended_by(module, op, context),
+        Instruction::Operate(Op::EndProcess) => joined_by(module, context),
         _ => None,
     }
 }
@@ -119,7 +106,6 @@ fn first_of(first: Option<u32>, second: Option<u32>) -> Option<u32>
 }
 
 /// Where the PAR goes on of which a rule asks.
-#[tactic(auto, unfolding(crate::specs::RowsAsked::successor_of))]
 fn successor_of(
     module: &Module,
     rule: Rule,
@@ -176,26 +162,7 @@ fn push_exits(
     Ok(())
 }
 
-/// Appends the rows where the guards of an alternation lead that an operation ends.
-#[tactic(auto, unfolding(crate::specs::RowsAsked::exits_by))]
-fn push_exits_by(
-    text: &mut String,
-    module: &Module,
-    op: Op,
-    next: usize,
-    state: &State,
-) -> Result<(), AllocError>
-    ensures { OnOk result (string_bytes text.new
-        ≡ string_bytes text.old ++ exits_by «module».now op next (state_of state.now)) }
-{
-    match op {
-        Op::AlternationEnd => push_exits(text, module, next, &state.guards),
-        _ => text.push_str(""),
-    }
-}
-
 /// Appends the rows where the guards of an alternation lead that an instruction ends.
-#[tactic(auto, unfolding(crate::specs::RowsAsked::exits_of))]
 fn push_exits_of(
     text: &mut String,
     module: &Module,
@@ -207,13 +174,12 @@ fn push_exits_of(
         ≡ string_bytes text.old ++ exits_of «module».now instruction next (state_of state.now)) }
 {
     match instruction {
-        Instruction::Operate(op) => push_exits_by(text, module, op, next, state),
+        Instruction::Operate(Op::AlternationEnd) => push_exits(text, module, next, &state.guards),
         _ => text.push_str(""),
     }
 }
 
 /// Appends the rows where a PAR goes on, and those where guards lead.
-#[tactic(auto, unfolding(crate::specs::RowsAsked::rows_behind))]
 fn push_rows_behind(
     text: &mut String,
     module: &Module,
@@ -255,7 +221,6 @@ fn push_rows_there(
 }
 
 /// Appends the rows that a rule asks of the instruction before an offset.
-#[tactic(auto, unfolding(crate::specs::RowsAsked::rows_asked))]
 pub(crate) fn push_rows_asked(
     text: &mut String,
     module: &Module,

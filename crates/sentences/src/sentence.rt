@@ -1,4 +1,5 @@
 //! The sentence that explains a refusal.
+#![tactic(auto, unfolding(crate::proofs::Opening::sentence_opens))]
 
 ghost use Rattle.std.specs.Prelude.{◌≡◌, ◌+◌, ◌<◌, ◌^◌, ◌++◌, OnOk, string_bytes};
 ghost use Rattle.states.specs.Views.{state_of};
@@ -17,7 +18,6 @@ use states::{Rule, State};
 use std::alloc::AllocError;
 
 /// Appends what an instruction wants.
-#[tactic(auto, unfolding(crate::specs::Sentences::wants_part))]
 fn push_wants_part(text: &mut String, words: &str) -> Result<(), AllocError>
     ensures { OnOk result (string_bytes text.new ≡ string_bytes text.old ++ wants_part words.now) }
 {
@@ -27,7 +27,6 @@ fn push_wants_part(text: &mut String, words: &str) -> Result<(), AllocError>
 }
 
 /// Appends what was found.
-#[tactic(auto, unfolding(crate::specs::Sentences::found_part))]
 fn push_found_part(
     text: &mut String,
     module: &Module,
@@ -46,7 +45,6 @@ fn push_found_part(
 }
 
 /// Appends what an instruction wants, and what was found.
-#[tactic(auto, unfolding(crate::specs::Sentences::wants_text))]
 fn push_wants(
     text: &mut String,
     module: &Module,
@@ -65,7 +63,6 @@ fn push_wants(
 }
 
 /// Appends the name of an operation; of one that the module does not have its number too.
-#[tactic(auto, unfolding(crate::specs::Sentences::operation_text))]
 fn push_operation(text: &mut String, entry: Entry, op: Op) -> Result<(), AllocError>
     ensures { OnOk result (string_bytes text.new ≡ string_bytes text.old ++ operation_text entry op) }
 {
@@ -77,7 +74,6 @@ fn push_operation(text: &mut String, entry: Entry, op: Op) -> Result<(), AllocEr
 }
 
 /// Appends the name of an instruction.
-#[tactic(auto, unfolding(crate::specs::Sentences::name_text))]
 fn push_name(text: &mut String, entry: Entry, instruction: Instruction) -> Result<(), AllocError>
     ensures { OnOk result (string_bytes text.new ≡ string_bytes text.old ++ name_text entry instruction) }
 {
@@ -88,7 +84,6 @@ fn push_name(text: &mut String, entry: Entry, instruction: Instruction) -> Resul
 }
 
 /// Appends the name of an instruction, what it wants, and what was found.
-#[tactic(auto, unfolding(crate::specs::Sentences::named_text))]
 fn push_named(
     text: &mut String,
     module: &Module,
@@ -107,7 +102,6 @@ fn push_named(
 }
 
 /// Appends that something is no instruction.
-#[tactic(auto, unfolding(crate::specs::Sentences::no_instruction))]
 fn push_no_instruction(text: &mut String, entry: Entry) -> Result<(), AllocError>
     ensures { OnOk result (string_bytes text.new ≡ string_bytes text.old ++ no_instruction entry) }
 {

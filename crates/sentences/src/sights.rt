@@ -1,17 +1,17 @@
 //! What is written of an instruction: its rows, its line and the state there.
+#![tactic(auto, unfolding(crate::specs::Rows::context_rows, crate::specs::Rows::rows_text, crate::specs::Sights::known_here, crate::specs::Sights::instruction_text, crate::specs::Sights::sight_text))]
 
 ghost use Rattle.std.specs.Prelude.{◌≡◌, ◌<◌, ◌^◌, ◌++◌, length, OnOk, string_bytes};
 ghost use Rattle.states.specs.Views.{state_of};
 ghost use Rattle.module_format.specs.Contents.{label_at};
 ghost use Rattle.certificate.specs.Starts.{procedure_at};
 ghost use Rattle.certificate.specs.Branches.{branch_at};
-ghost use Rattle.sentences.specs.Sights.{known_here};
+ghost use Rattle.sentences.specs.Sights.{known_here, instruction_text, sight_text, setting_after};
 ghost use Rattle.sentences.specs.Rows.{label_line, procedure_line, branch_line, context_rows, rows_text};
-ghost use Rattle.sentences.specs.Sights.{instruction_text, sight_text, setting_after};
 ghost use Rattle.sentences.specs.Seen.{seen};
 
 use certificate::Module;
-use fact_texts::{push_branch, push_label, push_procedure};
+use fact_texts::{push_context_row, push_label};
 use listings::push_line;
 use state_texts::{Setting, push_state};
 use states::State;
@@ -34,7 +34,7 @@ fn push_procedure_at(text: &mut String, module: &Module, at: u32) -> Result<(), 
         ≡ string_bytes text.old ++ procedure_line «module».now (procedure_at «module».now at)) }
 {
     match module.procedure_at(at) {
-        Some((context, row)) => push_procedure(text, module.tables(), context, row),
+        Some((context, row)) => push_context_row(text, module.tables(), context, row.entry, row),
         None => text.push_str(""),
     }
 }
@@ -45,13 +45,18 @@ fn push_branch_at(text: &mut String, module: &Module, at: u32) -> Result<(), All
         ≡ string_bytes text.old ++ branch_line «module».now (branch_at «module».now at)) }
 {
     match module.branch_at(at) {
-        Some((context, _par, row)) => push_branch(text, module.tables(), context, row),
+        Some((context, _par, row)) => push_context_row(
+            text,
+            module.tables(),
+            context,
+            row.entry,
+            row,
+        ),
         None => text.push_str(""),
     }
 }
 
 /// Appends the rows of the procedure and the branch that begin at an offset.
-#[tactic(auto, unfolding(crate::specs::Rows::context_rows))]
 fn push_context_rows(text: &mut String, module: &Module, at: u32) -> Result<(), AllocError>
     ensures { OnOk result (string_bytes text.new ≡ string_bytes text.old ++ context_rows «module».now at) }
 {
@@ -61,7 +66,6 @@ fn push_context_rows(text: &mut String, module: &Module, at: u32) -> Result<(), 
 }
 
 /// Appends the rows of an offset.
-#[tactic(auto, unfolding(crate::specs::Rows::rows_text))]
 pub(crate) fn push_rows(text: &mut String, module: &Module, at: u32) -> Result<(), AllocError>
     ensures { OnOk result (string_bytes text.new ≡ string_bytes text.old ++ rows_text «module».now at) }
 {
@@ -71,7 +75,6 @@ pub(crate) fn push_rows(text: &mut String, module: &Module, at: u32) -> Result<(
 }
 
 /// Appends the state at an offset, if there is one.
-#[tactic(auto, unfolding(crate::specs::Sights::known_here))]
 fn push_known(
     text: &mut String,
     module: &Module,
@@ -88,7 +91,6 @@ fn push_known(
 }
 
 /// Appends the instruction at an offset, and the state there.
-#[tactic(auto, unfolding(crate::specs::Sights::instruction_text))]
 fn push_instruction(
     alloc: Global,
     text: &mut String,
@@ -107,7 +109,6 @@ fn push_instruction(
 }
 
 /// Appends the rows of an offset, its instruction and the state there.
-#[tactic(auto, unfolding(crate::specs::Sights::sight_text))]
 pub fn push_sight(
     alloc: Global,
     text: &mut String,

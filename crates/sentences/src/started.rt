@@ -4,13 +4,14 @@ ghost use Rattle.std.specs.Prelude.{◌≡◌, ◌++◌, OnOk, string_bytes};
 ghost use Rattle.certificate.specs.Branches.{branch_at};
 ghost use Rattle.states.specs.Views.{state_of};
 ghost use Rattle.sentences.specs.Begun.{branch_target};
-ghost use Rattle.sentences.specs.Started.{fault_text, shared_text, fault_at, shared_at, fault_part, shared_part};
+ghost use Rattle.sentences.specs.Started.{fault_text, common_text, shared_text, fault_at, shared_at};
+ghost use Rattle.sentences.specs.Started.{fault_part, shared_part};
 
 use crate::begun::branch_target;
 use crate::found::Spot;
 use crate::leads::target;
 use certificate::Module;
-use found_parts::{Shared, Start, StartFault, shared_in, start_fault};
+use found_parts::{Common, Shared, Start, StartFault, shared_in, start_fault};
 use states::State;
 use std::alloc::AllocError;
 
@@ -25,13 +26,25 @@ fn push_fault(text: &mut String, fault: Option<StartFault>) -> Result<(), AllocE
     }
 }
 
+/// Appends what the branch that begins at an offset has in common with another one.
+fn push_common(text: &mut String, entry: u32, what: Common) -> Result<(), AllocError>
+    ensures { OnOk result (string_bytes text.new ≡ string_bytes text.old ++ common_text entry what) }
+{
+    match what {
+        Common::Words { words } => write!(text, "; the branch at {entry} uses word {words} too"),
+        Common::Parameter { number } => {
+            write!(text, "; the branch at {entry} uses parameter {number} too")
+        }
+    }
+}
+
 /// Appends what a branch has in common with one that is started.
 #[tactic(auto, unfolding(crate::specs::Started::shared_text))]
 fn push_shared(text: &mut String, shared: Option<Shared>) -> Result<(), AllocError>
     ensures { OnOk result (string_bytes text.new ≡ string_bytes text.old ++ shared_text shared) }
 {
     match shared {
-        Some(shared) => write!(text, "; {shared}"),
+        Some(shared) => push_common(text, shared.entry, shared.what),
         None => text.push_str(""),
     }
 }

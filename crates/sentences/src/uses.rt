@@ -1,7 +1,7 @@
 //! The registers that instructions use.
 
 ghost use Rattle.std.specs.Prelude.{◌≡◌};
-ghost use Rattle.sentences.specs.Uses.{used_by, used, used_by_par, used_for_pars};
+ghost use Rattle.sentences.specs.Uses.{used_by, used, used_for_pars};
 
 use machine_state::{Instruction, Op};
 
@@ -59,25 +59,14 @@ pub(crate) fn used(instruction: Instruction) -> Uses
     }
 }
 
-/// The registers that an operation uses for a PAR.
-#[tactic(auto, unfolding(crate::specs::Uses::used_by_par))]
-fn used_by_par(op: Op) -> Uses
-    ensures { result ≡ used_by_par op }
-{
-    match op {
-        Op::EndProcess => Uses::A,
-        Op::StartProcess => Uses::AAndB,
-        _ => Uses::Nothing,
-    }
-}
-
 /// The registers that an instruction uses for a PAR.
 #[tactic(auto, unfolding(crate::specs::Uses::used_for_pars))]
 pub(crate) fn used_for_pars(instruction: Instruction) -> Uses
     ensures { result ≡ used_for_pars instruction }
 {
     match instruction {
-        Instruction::Operate(op) => used_by_par(op),
+        Instruction::Operate(Op::EndProcess) => Uses::A,
+        Instruction::Operate(Op::StartProcess) => Uses::AAndB,
         _ => Uses::Nothing,
     }
 }

@@ -4,7 +4,7 @@ ghost use Rattle.std.specs.Prelude.{◌≡◌, ◌++◌, OnOk, Some, string_byte
 ghost use Rattle.module_format.specs.Contents.{contents_of};
 ghost use Rattle.states.specs.Views.{state_of};
 ghost use Rattle.state_texts.specs.StateTexts.{changes_text, context_change, depth_change, is_in_text, is_same_mode};
-ghost use Rattle.state_texts.specs.StateTexts.{known_text, mode_change, registers_line, source_text, state_line};
+ghost use Rattle.state_texts.specs.StateTexts.{known_text, mode_change, registers_line, state_line};
 ghost use Rattle.state_texts.specs.StateTexts.{changes_after, place_changes};
 
 use crate::settings::{ModeText, Setting};
@@ -21,32 +21,6 @@ fn is_in_text(is_inside: bool) -> &'static str
     if is_inside { " is in " } else { " is not in " }
 }
 
-/// Where the value of a register comes from.
-#[derive(Clone, Copy)]
-struct SourceText(Source);
-
-impl fmt::Display for SourceText {
-    ghost output = { λ source. Some (source_text source.0) };
-
-    fn fmt<W: fmt::Write>(&self, f: &mut fmt::Formatter<W>) -> fmt::Result {
-        match self.0 {
-            Source::Nowhere => write!(f, ""),
-            Source::From { word } => write!(f, " from word {word}"),
-            Source::Test {
-                word,
-                lo,
-                hi,
-                is_inside,
-            } => write!(
-                f,
-                " if word {word}{}{}",
-                is_in_text(is_inside),
-                range(lo, hi)
-            ),
-        }
-    }
-}
-
 /// What is known of a register, and where it comes from.
 #[derive(Clone, Copy)]
 pub struct KnownText(pub Known);
@@ -55,8 +29,22 @@ impl fmt::Display for KnownText {
     ghost output = { λ known. Some (known_text known.0) };
 
     fn fmt<W: fmt::Write>(&self, f: &mut fmt::Formatter<W>) -> fmt::Result {
-        let Known { fact, source } = self.0;
-        write!(f, "{}{}", FactText(fact), SourceText(source))
+        let fact = FactText(self.0.fact);
+        match self.0.source {
+            Source::Nowhere => write!(f, "{fact}"),
+            Source::From { word } => write!(f, "{fact} from word {word}"),
+            Source::Test {
+                word,
+                lo,
+                hi,
+                is_inside,
+            } => write!(
+                f,
+                "{fact} if word {word}{}{}",
+                is_in_text(is_inside),
+                range(lo, hi)
+            ),
+        }
     }
 }
 

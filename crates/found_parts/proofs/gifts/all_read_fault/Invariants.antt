@@ -1,9 +1,0 @@
-use Rattle.std.proofs.Common.{◌≡◌, drop}
-use Rattle.found_parts.specs.Gifts.{read_fault}
-use Rattle.found_parts.specs.Firsts.{first_of}
-use Rattle.found_parts.proofs.gifts.all_read_fault.Given as goal
-
-abbrev pub invariant-loop-parameter : goal.invariant-loop-parameter
-invariant-loop-parameter l =
-    first_of (read_fault l.place.«module».now l.context) l.parameters
-    ≡ first_of (read_fault l.place.«module».now l.context) (drop l.parameter-index l.parameters)
