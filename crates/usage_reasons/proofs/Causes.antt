@@ -1,52 +1,32 @@
 -- Why parts of expressions break a rule.
-use Rattle.std.proofs.Common.{◌≡◌, ℕ, ◌+◌, ◌<◌, ◌^◌, true, false, map, List, [], ◌∷◌, length, Option, Some, None, Ok, Err, sym, subst, arith}
+use Rattle.std.proofs.Common.{◌≡◌, ℕ, ◌+◌, ◌<◌, ◌^◌, false, map, List, [], ◌∷◌, length, Result, Ok, Err, sym, subst, arith}
 use Rattle.std.proofs.Common.{length-append}
-use Rattle.std.specs.Prelude.{◌==◌, IfSome}
 use Rattle.occam_layout.specs.declared.mark.Mark.TheVariants as mark
 use Rattle.occam_parser.specs.Terminals.{Name, Mark}
 use Rattle.word_arithmetic.specs.Range.{ends_of}
 use Rattle.occam_parser.specs.declared.tree.Operand.{Operand}
 use Rattle.occam_parser.specs.Views.{term_of, with_others}
 use Rattle.word_arithmetic.specs.declared.ranges.Range.{Range}
-use Rattle.occam_parser.specs.declared.tree.PrefixOperator.{PrefixOperator}
 use Rattle.occam_parser.specs.declared.tree.PairOperator.{PairOperator}
-use Rattle.occam_parser.specs.declared.tree.ChainOperator.{ChainOperator}
-use Rattle.occam_parser.specs.Expressions.{Expression, Alone, Prefixed, Paired, Chained, Terms, Two, Then, Term, Element, written, written_term}
+use Rattle.occam_parser.specs.Expressions.{Expression, Alone, Paired, Terms, Two, Then, Term, Element, written, written_term}
 use Rattle.scalar_ranges.specs.declared.types.ExprType.{ExprType}
-use Rattle.scalar_ranges.specs.declared.types.ExprType.TheVariants as types
 use Rattle.scalar_ranges.specs.declared.bounds.TheConstants.{OUT_OF_RANGE}
 use Rattle.scalar_ranges.specs.Entries.{Entry}
 use Rattle.scalar_ranges.specs.Types.{type_of, type_of_term}
 use Rattle.scalar_ranges.specs.Bounds.{bound_of, bound_of_term, range_found}
 use Rattle.program_uses.specs.Constants.{is_same_type}
+use Rattle.usage_reasons.specs.declared.reason.Why.{Why}
 use Rattle.usage_reasons.specs.declared.reason.Why.TheVariants as why
 use Rattle.usage_reasons.specs.Tokens.{capped}
-use Rattle.usage_reasons.specs.Causes.{IsCause, Fails, AreJoined, unknown, other_sort, other_type}
+use Rattle.usage_reasons.specs.Causes.{IsCause, Fails, AreJoined, AreOperands, IsUnfit, unknown, other_sort}
 use Rattle.usage_reasons.specs.Causes.{no_constant, no_constant_element, overflow, division, shift, conversion, outside}
-use Rattle.usage_reasons.specs.Causes.{no_number as condition, other_types as compared}
+use Rattle.usage_reasons.specs.Causes.{unfit, other_type, no_number, other_types as compared}
 use Rattle.usage_reasons.proofs.Places.{itself}
 
-pub prefix_operand : (es : List Entry) (e : Expression) (op : PrefixOperator) (t : Term) (left right : Range)
-    → e ≡ Prefixed op t → range_found (bound_of_term es t) ≡ Ok (ends_of right)
+-- an operator that fails where its operands lie there
+pub operator_fails : (es : List Entry) (e : Expression) (left right : Range) → AreOperands es e left right
     → range_found (bound_of es e) ≡ Err OUT_OF_RANGE → Fails es e left right
-prefix_operand es e op t left right is h fails =
-    subst (λ d. range_found (bound_of es d) ≡ Err OUT_OF_RANGE → Fails es d left right) (sym is)
-    (λ f. record { operands = h; result = f }) fails
-
-pub pair_operands : (es : List Entry) (e : Expression) (op : PairOperator) (a b : Term) (left right : Range)
-    → e ≡ Paired op a b → range_found (bound_of_term es a) ≡ Ok (ends_of left)
-    → range_found (bound_of_term es b) ≡ Ok (ends_of right)
-    → range_found (bound_of es e) ≡ Err OUT_OF_RANGE → Fails es e left right
-pair_operands es e op a b left right is g h fails =
-    subst (λ d. range_found (bound_of es d) ≡ Err OUT_OF_RANGE → Fails es d left right) (sym is)
-    (λ f. record { operands = (g, h); result = f }) fails
-
-pub chain_operands : (es : List Entry) (e : Expression) (op : ChainOperator) (ts : Terms) (left right : Range)
-    → e ≡ Chained op ts → AreJoined es ts left right → range_found (bound_of es e) ≡ Err OUT_OF_RANGE
-    → Fails es e left right
-chain_operands es e op ts left right is h fails =
-    subst (λ d. range_found (bound_of es d) ≡ Err OUT_OF_RANGE → Fails es d left right) (sym is)
-    (λ f. record { operands = h; result = f }) fails
+operator_fails es e left right h fails = record { operands = h; result = fails }
 
 joined_then : (es : List Entry) (ts : Terms) (t : Term) (xs : List Term) (left right : Range)
     → AreJoined es (with_others (Then ts t) xs) left right
@@ -54,37 +34,37 @@ joined_then es ts t [] left right = tt
 joined_then es ts t (x ∷ xs) left right = joined_then es (Then ts t) x xs left right
 
 -- of a chain of more than two operands nothing is said
-pub joined_long : (es : List Entry) (a b : Term) (xs : List Operand) (left right : Range) → (length xs == 0) ≡ false
+pub joined_long : (es : List Entry) (a b : Term) (xs : List Operand) (i : ℕ) (left right : Range) → i < length xs
     → AreJoined es (with_others (Two a b) (map term_of xs)) left right
-joined_long es a b [] left right h = absurd (let z : true ≡ false = h in cc)
-joined_long es a b (x ∷ xs) left right h = joined_then es (Two a b) (term_of x) (map term_of xs) left right
+joined_long es a b [] i left right h = absurd (omega (arith, h))
+joined_long es a b (x ∷ xs) i left right h = joined_then es (Two a b) (term_of x) (map term_of xs) left right
 
-pub of_all : {A : Type 0} (P : A → Type 0) (o : Option A) → ((x : A) → P x) → IfSome o P
-of_all P None f = tt
-of_all P (Some x) f = f x
+-- of two operands it is where they lie
+pub joined_first : (es : List Entry) (a b : Term) (xs : List Operand) (left right : Range)
+    → range_found (bound_of_term es a) ≡ Ok (ends_of left) → range_found (bound_of_term es b) ≡ Ok (ends_of right)
+    → AreJoined es (with_others (Two a b) (map term_of xs)) left right
+joined_first es a b [] left right g h = (g, h)
+joined_first es a b (x ∷ xs) left right g h = joined_then es (Two a b) (term_of x) (map term_of xs) left right
 
 pub ruleset names_break = (unknown, other_sort, no_constant)
 
-pub ruleset operators_fail = (overflow, division, shift, conversion, prefix_operand, pair_operands, chain_operands)
+pub ruleset operators_fail = (overflow, division, shift, conversion, operator_fails)
+
+pub ruleset types_unfit = (other_type, no_number)
 
 pub ruleset subscripts_fail = (outside)
 
-pub other_operand : (es : List Entry) (t : Term) (at len : ℕ) (found wanted : ExprType) → at < 2 ^ 64
-    → len ≡ capped (length (written_term t)) → type_of_term es t ≡ Ok found → is_same_type found wanted ≡ false
-    → IsCause es (written_term t) at (record { tokens = record { at = at; len = len }; why = why.OtherType found wanted })
-other_operand es t at len found wanted fits count type other =
-    itself es (written_term t) at len _ fits count (other_type (Alone t) found wanted type other)
+pub unfit_operand : (es : List Entry) (t : Term) (at len : ℕ) (found : Result ExprType ℕ) (w : Why) → at < 2 ^ 64
+    → len ≡ capped (length (written_term t)) → found ≡ type_of_term es t → IsUnfit found w
+    → IsCause es (written_term t) at (record { tokens = record { at = at; len = len }; why = w })
+unfit_operand es t at len found w fits count type other =
+    itself es (written_term t) at len w fits count (unfit (Alone t) w (subst (λ f. IsUnfit f w) type other))
 
-pub other_expression : (es : List Entry) (e : Expression) (at len : ℕ) (found wanted : ExprType) → at < 2 ^ 64
-    → len ≡ capped (length (written e)) → type_of es e ≡ Ok found → is_same_type found wanted ≡ false
-    → IsCause es (written e) at (record { tokens = record { at = at; len = len }; why = why.OtherType found wanted })
-other_expression es e at len found wanted fits count type other =
-    itself es (written e) at len _ fits count (other_type e found wanted type other)
-
-pub no_number : (es : List Entry) (t : Term) (at len : ℕ) → at < 2 ^ 64 → len ≡ capped (length (written_term t))
-    → type_of_term es t ≡ Ok types.Condition
-    → IsCause es (written_term t) at (record { tokens = record { at = at; len = len }; why = why.NoNumber })
-no_number es t at len fits count type = itself es (written_term t) at len _ fits count (condition (Alone t) type)
+pub unfit_expression : (es : List Entry) (e : Expression) (at len : ℕ) (found : Result ExprType ℕ) (w : Why) → at < 2 ^ 64
+    → len ≡ capped (length (written e)) → found ≡ type_of es e → IsUnfit found w
+    → IsCause es (written e) at (record { tokens = record { at = at; len = len }; why = w })
+unfit_expression es e at len found w fits count type other =
+    itself es (written e) at len w fits count (unfit e w (subst (λ f. IsUnfit f w) type other))
 
 pub other_types : (es : List Entry) (e : Expression) (op : PairOperator) (a b : Term) (at len : ℕ) (left right : ExprType)
     → at < 2 ^ 64 → e ≡ Paired op a b → len ≡ capped (length (written e)) → type_of_term es a ≡ Ok left

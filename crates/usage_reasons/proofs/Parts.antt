@@ -1,9 +1,11 @@
 -- Why parts of lines break a rule.
-use Rattle.std.proofs.Common.{◌≡◌, ℕ, ℤ, pos, ◌+◌, ◌+ℤ◌, false, List, [], ◌∷◌, ◌++◌, length, map, sum_by, Some, Ok, refl}
+use Rattle.std.proofs.Common.{◌≡◌, ℕ, ℤ, pos, ◌+◌, ◌+ℤ◌, false, List, [], ◌∷◌, ◌++◌, length, map, sum_by, refl}
+use Rattle.std.proofs.Common.{Option, Some, None, Ok}
 use Rattle.std.proofs.Common.{sym, subst, arith, length-append}
 use Rattle.std.proofs.lemmas.List.{length-map}
 use Rattle.std.proofs.lemmas.List.Sums.{sum_by-cons}
-use Rattle.std.specs.Prelude.{int_le, nat_eq}
+use Rattle.std.specs.Prelude.{int_le, nat_eq, IfSome}
+use Rattle.std.specs.Option.{option_or}
 use Rattle.occam_layout.specs.declared.mark.Mark.TheVariants as mark
 use Rattle.occam_parser.specs.Terminals.{Terminal, Name, Text, Mark}
 use Rattle.occam_parser.specs.Expressions.{Expression, written}
@@ -30,6 +32,17 @@ use Rattle.usage_reasons.specs.Causes.{count_below_zero, last_index, other_items
 -- what is said without the place in the line
 pub of_cause : (es : List Entry) (line : List Terminal) (at : ℕ) (c : Cause) → IsCause es line at c → Explains es c
 of_cause es line at c h = record { part = h.part; count = h.count; broken = h.broken }
+
+-- of each cause that is found
+pub of_cause_if : (es : List Entry) (line : List Terminal) (at : ℕ) (r : Option Cause) → IfSome r (IsCause es line at)
+    → IfSome r (Explains es)
+of_cause_if es line at None h = h
+of_cause_if es line at (Some c) h = of_cause es line at c h
+
+-- what holds of each of two causes holds of the first of them
+pub first_of : (P : Cause → Type 0) (a b r : Option Cause) → r ≡ option_or a b → IfSome a P → IfSome b P → IfSome r P
+first_of P None b r is h k = subst (λ o. IfSome o P) (sym is) k
+first_of P (Some c) b r is h k = subst (λ o. IfSome o P) (sym is) h
 
 -- all tokens of a part
 pub whole_part : (es : List Entry) (part : List Terminal) (at len : ℕ) (w : Why) → len ≡ capped (length part)

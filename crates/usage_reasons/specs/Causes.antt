@@ -1,6 +1,6 @@
 -- Why tokens break a rule, by what a scope knows.
 use Rattle.std.specs.Prelude.{◌≡◌, ℕ, ℤ, pos, ◌+◌, ◌+ℤ◌, int_le, nat_eq, false, List, [], ◌∷◌, ◌++◌, length}
-use Rattle.std.specs.Prelude.{Option, Some, None, Ok, Err}
+use Rattle.std.specs.Prelude.{Option, Some, None, Result, Ok, Err}
 use Rattle.std.specs.Borrow.{Bor}
 use Rattle.word_arithmetic.specs.Word.{greatest_word}
 use Rattle.word_arithmetic.specs.Range.{ends_of, is_within}
@@ -50,15 +50,19 @@ pub record Fails (es : List Entry) (e : Expression) (left right : Range) : Type 
   pub operands : AreOperands es e left right
   pub result : range_found (bound_of es e) ≡ Err OUT_OF_RANGE
 
+-- an expression of this type has another one than is wanted, or is a condition where a number is wanted
+pub data IsUnfit (type : Result ExprType ℕ) : Why → Type 0 where
+  other_type : (found wanted : ExprType) → type ≡ Ok found → is_same_type found wanted ≡ false
+      → IsUnfit type (why.OtherType found wanted)
+  no_number : type ≡ Ok types.Condition → IsUnfit type why.NoNumber
+
 -- These tokens break a rule for this reason.
 pub data Breaks (es : List Entry) : List Terminal → Why → Type 0 where
   unknown : (name : List ℕ) (nearest : Option (Bor (List ℕ))) → meaning_in name es ≡ None
       → Breaks es (Name name ∷ []) (why.UnknownName nearest)
   other_sort : (name : List ℕ) (m : Meaning) (wanted : Sort) → meaning_in name es ≡ Some m
       → is_of_sort wanted m ≡ false → Breaks es (Name name ∷ []) (why.OtherSort wanted)
-  other_type : (e : Expression) (found wanted : ExprType) → type_of es e ≡ Ok found
-      → is_same_type found wanted ≡ false → Breaks es (written e) (why.OtherType found wanted)
-  no_number : (e : Expression) → type_of es e ≡ Ok types.Condition → Breaks es (written e) why.NoNumber
+  unfit : (e : Expression) (w : Why) → IsUnfit (type_of es e) w → Breaks es (written e) w
   other_types : (op : PairOperator) (a b : Term) (left right : ExprType) → type_of_term es a ≡ Ok left
       → type_of_term es b ≡ Ok right → is_same_type left right ≡ false
       → Breaks es (written (Paired op a b)) (why.OtherTypes left right)

@@ -2,6 +2,7 @@ pub mod Tokens
 pub mod Sorts
 pub mod Numbers
 pub mod Chains
+pub mod Sites
 pub mod Causes
 pub mod Calls
 pub mod Misuse

@@ -1,11 +1,10 @@
 //! The walk over processes, as far as the line at fault.
 
-use crate::site::{Part, rule_of};
+use crate::site::Part;
 use crate::tokens::{plus, width_of};
 use crate::walk::Walk;
 use occam_parser::{
-    Action, Body, Branch, Choice, Construct, Declaration, Expr, Guard, OneOrMore, Process,
-    Replicator,
+    Body, Branch, Choice, Constant, Construct, Declaration, Expr, Guard, Names, Process, Replicator,
 };
 use program_uses::{
     channel_meaning, constant_meaning, is_sequence, repeats_of, variable_meaning,
@@ -15,35 +14,19 @@ use scalar_ranges::{Meaning, narrow_by};
 use usage_checks::{after_action, after_input};
 
 impl<'a> Walk<'_, 'a> {
-    /// Names that one line declares.
-    fn enter_all(
-        &mut self,
-        first: usize,
-        line: u32,
-        names: &OneOrMore<&'a [u8]>,
-        meaning: Meaning,
-    ) {
-        self.enter(first, line, names.first, meaning);
-        for name in &names.others {
-            self.enter(first, line, name, meaning);
-        }
+    /// A constant of the scope whose first declaration has this number.
+    pub(crate) fn constant(&mut self, first: usize, constant: &Constant<'a>) {
+        self.look(constant.line, Part::Constant(constant));
+        let meaning = constant_meaning(&self.scope, constant.value_type, &constant.value);
+        self.enter(first, constant.line, constant.name, meaning);
     }
 
-    /// A declaration of the scope whose first declaration has this number.
-    fn declaration(&mut self, first: usize, declaration: &Declaration<'a>) {
-        match declaration {
-            Declaration::Constant(constant) => {
-                let meaning = constant_meaning(&self.scope, constant.value_type, &constant.value);
-                self.enter(first, constant.line, constant.name, meaning);
-            }
-            Declaration::Variables(names) => {
-                let meaning = variable_meaning(&self.scope, names.value_type, &names.size);
-                self.enter_all(first, names.line, &names.names, meaning);
-            }
-            Declaration::Channels(names) => {
-                let meaning = channel_meaning(&self.scope, names.value_type, &names.size);
-                self.enter_all(first, names.line, &names.names, meaning);
-            }
+    /// Names that one line declares.
+    fn enter_all(&mut self, first: usize, declared: &Names<'a>, meaning: Meaning) {
+        self.look(declared.line, Part::Size(&declared.size));
+        self.enter(first, declared.line, declared.names.first, meaning);
+        for name in &declared.names.others {
+            self.enter(first, declared.line, name, meaning);
         }
     }
 
@@ -51,18 +34,18 @@ impl<'a> Walk<'_, 'a> {
     fn declarations(&mut self, declarations: &[Declaration<'a>]) {
         let first = self.scope.len();
         for declaration in declarations {
-            if self.is_over(line_of(declaration)) {
-                return;
+            match declaration {
+                Declaration::Constant(constant) => self.constant(first, constant),
+                Declaration::Variables(names) => {
+                    let meaning = variable_meaning(&self.scope, names.value_type, &names.size);
+                    self.enter_all(first, names, meaning);
+                }
+                Declaration::Channels(names) => {
+                    let meaning = channel_meaning(&self.scope, names.value_type, &names.size);
+                    self.enter_all(first, names, meaning);
+                }
             }
-            self.look(line_of(declaration), Part::Declaration(declaration));
-            self.declaration(first, declaration);
         }
-    }
-
-    /// An action on this line.
-    fn act(&mut self, line: u32, action: &Action<'a>) {
-        self.look(line, Part::Action(action));
-        after_action(&mut self.scope, &self.signatures, action);
     }
 
     /// A process.
@@ -78,7 +61,10 @@ impl<'a> Walk<'_, 'a> {
     #[cycle(walk)]
     fn construct(&mut self, line: u32, construct: &Construct<'a>) {
         match construct {
-            Construct::Action(action) => self.act(line, action),
+            Construct::Action(action) => {
+                self.look(line, Part::Action(action));
+                after_action(&mut self.scope, &self.signatures, action);
+            }
             Construct::Seq(processes) => {
                 for process in processes {
                     self.inner(process);
@@ -122,7 +108,8 @@ impl<'a> Walk<'_, 'a> {
         }
         let around = self.position.parallel;
         self.position.parallel = self.scope.len();
-        self.begin_par();
+        let begun = self.scope.begin_par().is_ok();
+        self.complete = self.complete && begun;
         for process in processes {
             self.component(process);
         }
@@ -165,19 +152,12 @@ impl<'a> Walk<'_, 'a> {
         self.scope.next();
     }
 
-    /// The head of a block under a replicator on the line at fault.
-    fn head(&mut self, line: u32, replicator: &Replicator<'a>, body: &Body<'a>) {
-        match rule_of(self.fault.number) {
-            Some(_) => self.look(line, Part::Replicator(replicator)),
-            None => self.explain_turns(replicator, body),
-        }
-    }
-
     /// A block under a replicator on this line.
     #[cycle(walk)]
     fn replicated(&mut self, line: u32, replicator: &Replicator<'a>, body: &Body<'a>) {
         if line == self.fault.line {
-            self.head(line, replicator, body);
+            self.look(line, Part::Replicator(replicator));
+            self.explain_turns(replicator, body);
             return;
         }
         let around = self.position.parallel;
@@ -225,29 +205,18 @@ impl<'a> Walk<'_, 'a> {
 
     /// The turns of a body begin.
     fn begin_turns(&mut self, replicator: &Replicator<'a>, body: &Body<'a>) {
-        match body {
-            Body::Seq(_) => self.begin_loop(replicator, body),
-            Body::Par(_) => self.begin_par(),
-            Body::If(_) | Body::Alt(_) => self.begin(),
-        }
-    }
-
-    /// The body of a replicated `SEQ` begins.
-    fn begin_loop(&mut self, replicator: &Replicator<'a>, body: &Body<'a>) {
-        let changed = variables_changed_in(
-            self.alloc,
-            &self.signatures,
-            &mut self.scope,
-            replicator,
-            body,
-        );
-        match changed {
-            Ok(numbers) => {
-                let begun = self.scope.begin_loop(&numbers).is_ok();
-                self.complete = self.complete && begun;
+        let begun = match body {
+            Body::Seq(_) => {
+                let (alloc, signatures) = (self.alloc, &self.signatures);
+                match variables_changed_in(alloc, signatures, &mut self.scope, replicator, body) {
+                    Ok(numbers) => self.scope.begin_loop(&numbers).is_ok(),
+                    Err(_) => false,
+                }
             }
-            Err(_) => self.complete = false,
-        }
+            Body::Par(_) => self.scope.begin_par().is_ok(),
+            Body::If(_) | Body::Alt(_) => self.scope.begin().is_ok(),
+        };
+        self.complete = self.complete && begun;
     }
 
     /// An `IF` or an `ALT` begins.
@@ -256,60 +225,29 @@ impl<'a> Walk<'_, 'a> {
         self.complete = self.complete && begun;
     }
 
-    /// A `PAR` begins.
-    fn begin_par(&mut self) {
-        let begun = self.scope.begin_par().is_ok();
-        self.complete = self.complete && begun;
-    }
-
-    /// A condition of a guard on this line, if it has one, and then where it holds.
-    fn condition(&mut self, line: u32, condition: &Option<Expr<'a>>) {
-        if let Some(condition) = condition {
-            self.look(line, Part::Condition(condition));
-            narrow_by(&mut self.scope, condition, true);
-        }
+    /// A condition on this line, and then where it holds.
+    fn condition(&mut self, line: u32, condition: &Expr<'a>) {
+        self.look(line, Part::Condition(condition));
+        narrow_by(&mut self.scope, condition, true);
     }
 
     /// A guard on this line, and then where it holds.
     fn guard(&mut self, line: u32, guard: &Guard<'a>) {
         match guard {
-            Guard::Skip { condition } => {
-                self.look(line, Part::Condition(condition));
-                narrow_by(&mut self.scope, condition, true);
-            }
+            Guard::Skip { condition } => self.condition(line, condition),
             Guard::Input {
                 condition,
                 channel,
                 target,
             } => {
-                self.condition(line, condition);
-                let at = width_before(condition);
-                self.look(
-                    line,
-                    Part::Input {
-                        at,
-                        channel,
-                        target,
-                    },
-                );
+                let mut at = 0;
+                if let Some(condition) = condition {
+                    self.condition(line, condition);
+                    at = plus(width_of(condition), 1);
+                }
+                self.look(line, Part::Input(at, channel, target));
                 after_input(&mut self.scope, target);
             }
         }
-    }
-}
-
-/// How many tokens come before the channel of a guard.
-fn width_before(condition: &Option<Expr>) -> usize {
-    match condition {
-        None => 0,
-        Some(condition) => plus(width_of(condition), 1),
-    }
-}
-
-/// The number of the line of a declaration.
-fn line_of(declaration: &Declaration) -> u32 {
-    match declaration {
-        Declaration::Constant(constant) => constant.line,
-        Declaration::Variables(names) | Declaration::Channels(names) => names.line,
     }
 }

@@ -1,8 +1,12 @@
 //! A cause of a fault: tokens, and why they break a rule.
 
-use crate::reason::{Tokens, Why};
+ghost use Rattle.std.specs.Prelude.{◌≡◌};
 
-/// A rule that expressions break.
+use crate::reason::{Tokens, Why};
+use program_uses::{CHANNEL_USE, CONSTANT_WANTED, OTHER_ACTUAL, PASSED_TWICE};
+use scalar_ranges::{OUT_OF_RANGE, OUTSIDE, UNKNOWN_NAME, WRONG_TYPE};
+
+/// A rule that parts of a line break.
 #[derive(Clone, Copy, PartialEq, Eq)]
 pub(crate) enum Rule {
     /// O9: names are known.
@@ -11,10 +15,33 @@ pub(crate) enum Rule {
     Types,
     /// O12: a constant has constants as operands.
     Constants,
+    /// O13: parameters take what is passed.
+    Actuals,
+    /// O15: channels are used inside a `PAR`, and links in their direction.
+    Channels,
     /// O16: operators and conversions do not fail.
     Ranges,
     /// O17: subscripts are within their arrays.
     Subscripts,
+    /// O18: nothing is passed twice.
+    Passing,
+    /// No part of a line breaks another rule.
+    Other,
+}
+
+/// The rule with this number.
+pub(crate) fn rule_of(number: u8) -> Rule {
+    match number {
+        UNKNOWN_NAME => Rule::Names,
+        WRONG_TYPE => Rule::Types,
+        CONSTANT_WANTED => Rule::Constants,
+        OTHER_ACTUAL => Rule::Actuals,
+        CHANNEL_USE => Rule::Channels,
+        OUT_OF_RANGE => Rule::Ranges,
+        OUTSIDE => Rule::Subscripts,
+        PASSED_TWICE => Rule::Passing,
+        _ => Rule::Other,
+    }
 }
 
 /// Tokens that break a rule, and why.
@@ -22,4 +49,15 @@ pub(crate) enum Rule {
 pub(crate) struct Cause<'a> {
     pub(crate) tokens: Tokens,
     pub(crate) why: Why<'a>,
+}
+
+/// A cause, if one was found.
+pub(crate) type Found<'a> = Option<Cause<'a>>;
+
+/// This many tokens from this one on break a rule for this reason.
+pub(crate) fn meant<'a>(at: usize, len: usize, why: Why<'a>) -> Cause<'a>
+    ensures { result ≡ record { tokens = record { at = at; len = len }; why = why.entry } }
+{
+    let tokens = Tokens { at, len };
+    Cause { tokens, why }
 }

@@ -1,45 +1,20 @@
 //! The part of an expression that breaks a rule: the innermost one, and of several the first.
 
-ghost use Rattle.std.specs.Prelude.{◌≡◌, ◌∷◌, [], map, IfSome};
-ghost use Rattle.occam_parser.specs.Terminals.{Name};
-ghost use Rattle.occam_parser.specs.Expressions.{Prefixed, Paired, Chained, Converted, written};
-ghost use Rattle.occam_parser.specs.Expressions.{written_term};
+ghost use Rattle.std.specs.Prelude.{map, IfSome};
+ghost use Rattle.occam_parser.specs.Expressions.{Converted, written, written_term};
 ghost use Rattle.occam_parser.specs.Views.{expression_of, term_of};
-ghost use Rattle.scalar_ranges.specs.Scopes.{entries_of};
 ghost use Rattle.usage_reasons.specs.Causes.{IsCause};
-ghost use Rattle.usage_reasons.specs.Chains.{terms_of, written_others};
+ghost use Rattle.usage_reasons.specs.Chains.{written_others};
+ghost use Rattle.usage_reasons.specs.Sites.{known_at};
 
-use crate::cause::{Cause, Rule};
-use crate::names::name_breaks;
-use crate::operators::{ChainOperands, chain_fails, conversion_fails, pair_fails, prefix_fails};
-use crate::reason::{Sort, Tokens};
-use crate::subscripts::{in_element, subscript_breaks};
+use crate::cause::{Found, Rule, meant};
+use crate::reason::Sort;
+use crate::site::Site;
 use crate::tokens::{plus, plus_between, width_of, width_of_operand};
-use crate::types::{no_number, other_operand, other_types};
 use occam_parser::{
     ChainOperator, Expr, Operand, Operation, PairOperator, PrefixOperator, ValueType,
 };
-use scalar_ranges::{ExprType, Scope};
-
-/// A name that breaks a rule, where one of this sort is wanted.
-#[tactic(auto, using(crate::proofs::Places::itself))]
-pub(crate) fn in_name<'a>(
-    scope: &Scope<'a>,
-    rule: Rule,
-    sort: Sort,
-    at: usize,
-    name: &[u8],
-) -> Option<Cause<'a>>
-    ensures { IfSome result (IsCause (entries_of scope.now) (Name name.now ∷ []) at) }
-{
-    match name_breaks(scope, rule, sort, name) {
-        Some(why) => Some(Cause {
-            tokens: Tokens { at, len: 1 },
-            why,
-        }),
-        None => None,
-    }
-}
+use scalar_ranges::ExprType;
 
 /// The type of the operands that an operator joins.
 fn operand_type(operator: ChainOperator) -> ExprType {
@@ -57,323 +32,172 @@ fn prefixed_type(operator: PrefixOperator) -> ExprType {
     }
 }
 
-/// An operator and its operand that break a rule, if the operand alone breaks none.
-#[tactic(auto, using(crate::proofs::Places::itself, crate::proofs::Places::after_one))]
-fn in_prefixed<'a>(
-    scope: &Scope<'a>,
-    rule: Rule,
-    at: usize,
-    expr: &Expr<'a>,
-    operator: PrefixOperator,
-    operand: &Operand<'a>,
-) -> Option<Cause<'a>>
-    requires { expression_of expr.now ≡ Prefixed operator (term_of operand.now) }
-    ensures { IfSome result (IsCause (entries_of scope.now) (written (expression_of expr.now)) at) }
-{
-    match rule {
-        Rule::Types => other_operand(scope, plus(at, 1), operand, prefixed_type(operator)),
-        Rule::Ranges => match prefix_fails(scope, expr, operand) {
-            Some(why) => Some(Cause {
-                tokens: Tokens {
-                    at,
-                    len: width_of(expr),
-                },
-                why,
-            }),
-            None => None,
-        },
-        Rule::Names | Rule::Constants | Rule::Subscripts => None,
+/// The type of two operands with this between them; none where any number is compared.
+fn paired_type(operator: PairOperator) -> Option<ExprType> {
+    match operator {
+        PairOperator::Arithmetic(_) => Some(ExprType::Int),
+        PairOperator::Comparison(_) => None,
     }
 }
 
-/// A comparison that breaks the rule of types, if its operands alone do not.
-#[tactic(auto, using(crate::proofs::Places::on_left, crate::proofs::Places::after_part))]
-fn in_comparison<'a>(
-    scope: &Scope<'a>,
-    at: usize,
-    expr: &Expr<'a>,
-    operator: PairOperator,
-    left: &Operand<'a>,
-    right: &Operand<'a>,
-) -> Option<Cause<'a>>
-    requires { expression_of expr.now ≡ Paired operator (term_of left.now) (term_of right.now) }
-    ensures { IfSome result (IsCause (entries_of scope.now) (written (expression_of expr.now)) at) }
-{
-    if let Some(cause) = no_number(scope, at, left) {
-        return Some(cause);
-    }
-    if let Some(cause) = no_number(scope, plus_between(at, width_of_operand(left)), right) {
-        return Some(cause);
-    }
-    other_types(scope, at, expr, left, right)
-}
-
-/// An operator between two operands that breaks the rule of types, if the operands alone do not.
-#[tactic(auto, using(crate::proofs::Places::on_left, crate::proofs::Places::after_part))]
-fn in_typed_pair<'a>(
-    scope: &Scope<'a>,
-    at: usize,
-    expr: &Expr<'a>,
-    operator: PairOperator,
-    left: &Operand<'a>,
-    right: &Operand<'a>,
-) -> Option<Cause<'a>>
-    requires { expression_of expr.now ≡ Paired operator (term_of left.now) (term_of right.now) }
-    ensures { IfSome result (IsCause (entries_of scope.now) (written (expression_of expr.now)) at) }
-{
-    if let PairOperator::Comparison(_) = operator {
-        return in_comparison(scope, at, expr, operator, left, right);
-    }
-    if let Some(cause) = other_operand(scope, at, left, ExprType::Int) {
-        return Some(cause);
-    }
-    other_operand(
-        scope,
-        plus_between(at, width_of_operand(left)),
-        right,
-        ExprType::Int,
-    )
-}
-
-/// An operator between two operands that breaks a rule, if the operands alone break none.
-#[tactic(auto, using(crate::proofs::Places::itself))]
-fn in_paired<'a>(
-    scope: &Scope<'a>,
-    rule: Rule,
-    at: usize,
-    expr: &Expr<'a>,
-    operator: PairOperator,
-    left: &Operand<'a>,
-    right: &Operand<'a>,
-) -> Option<Cause<'a>>
-    requires { expression_of expr.now ≡ Paired operator (term_of left.now) (term_of right.now) }
-    ensures { IfSome result (IsCause (entries_of scope.now) (written (expression_of expr.now)) at) }
-{
-    match rule {
-        Rule::Types => in_typed_pair(scope, at, expr, operator, left, right),
-        Rule::Ranges => match pair_fails(scope, expr, operator, left, right) {
-            Some(why) => Some(Cause {
-                tokens: Tokens {
-                    at,
-                    len: width_of(expr),
-                },
-                why,
-            }),
-            None => None,
-        },
-        Rule::Names | Rule::Constants | Rule::Subscripts => None,
-    }
-}
-
-/// A conversion that breaks a rule, if its operand breaks none.
-#[tactic(auto, using(crate::proofs::Places::itself, crate::proofs::Places::after_one))]
-fn in_converted<'a>(
-    scope: &Scope<'a>,
-    rule: Rule,
-    at: usize,
-    to: ValueType,
-    operand: &Operand<'a>,
-) -> Option<Cause<'a>>
-    ensures { IfSome result (IsCause (entries_of scope.now) (written_term (Converted to (term_of operand.now))) at) }
-{
-    match rule {
-        Rule::Types => no_number(scope, plus(at, 1), operand),
-        Rule::Ranges => match conversion_fails(scope, to, operand) {
-            Some(why) => {
-                let len = plus(1, width_of_operand(operand));
-                Some(Cause {
-                    tokens: Tokens { at, len },
-                    why,
-                })
+impl<'a> Site<'_, 'a> {
+    /// Operands of other types than their operator takes, if they alone break no rule. Of a chain each is looked at before.
+    fn in_typed(self, at: usize, expr: &Expr) -> Found<'a>
+        ensures { IfSome result (IsCause (known_at self.entry) (written (expression_of expr.now)) at) }
+    {
+        match &*expr.operation {
+            Operation::Operand(_) | Operation::Chain { .. } => None,
+            Operation::Prefix { operator, operand } => {
+                self.unfit(plus(at, 1), operand, Some(prefixed_type(*operator)))
             }
-            None => None,
-        },
-        Rule::Names | Rule::Constants | Rule::Subscripts => None,
-    }
-}
-
-/// A chain that breaks a rule, if its operands alone break none.
-#[tactic(auto, using(crate::proofs::Places::itself))]
-fn in_chained<'a>(
-    scope: &Scope<'a>,
-    rule: Rule,
-    at: usize,
-    expr: &Expr<'a>,
-    operator: ChainOperator,
-    operands: ChainOperands<'_, 'a>,
-) -> Option<Cause<'a>>
-    requires { expression_of expr.now ≡ Chained operator (terms_of operands) }
-    ensures { IfSome result (IsCause (entries_of scope.now) (written (expression_of expr.now)) at) }
-{
-    if rule != Rule::Ranges {
-        return None;
-    }
-    match chain_fails(scope, expr, operator, operands) {
-        Some(why) => Some(Cause {
-            tokens: Tokens {
-                at,
-                len: width_of(expr),
-            },
-            why,
-        }),
-        None => None,
-    }
-}
-
-/// An expression that breaks a rule, if its operands alone break none.
-fn in_whole<'a>(scope: &Scope<'a>, rule: Rule, at: usize, expr: &Expr<'a>) -> Option<Cause<'a>>
-    ensures { IfSome result (IsCause (entries_of scope.now) (written (expression_of expr.now)) at) }
-{
-    match &*expr.operation {
-        Operation::Operand(_) => None,
-        Operation::Prefix { operator, operand } => {
-            in_prefixed(scope, rule, at, expr, *operator, operand)
+            Operation::Pair {
+                operator,
+                left,
+                right,
+            } => {
+                let wanted = paired_type(*operator);
+                if let Some(cause) = self.unfit(at, left, wanted) {
+                    return Some(cause);
+                }
+                let next = plus_between(at, width_of_operand(left));
+                if let Some(cause) = self.unfit(next, right, wanted) {
+                    return Some(cause);
+                }
+                self.other_types(at, expr, left, right)
+            }
         }
-        Operation::Pair {
-            operator,
-            left,
-            right,
-        } => in_paired(scope, rule, at, expr, *operator, left, right),
-        Operation::Chain {
-            operator,
-            first,
-            second,
-            others,
-        } => {
-            let operands = ChainOperands {
+    }
+
+    /// A conversion that breaks the rule, if its operand does not.
+    #[tactic(auto, using(crate::proofs::Places::itself, crate::proofs::Places::after_one))]
+    fn in_converted(self, at: usize, to: ValueType, operand: &Operand) -> Found<'a>
+        ensures { IfSome result (IsCause (known_at self.entry) (written_term (Converted to (term_of operand.now))) at) }
+    {
+        match self.rule {
+            Rule::Types => self.unfit(plus(at, 1), operand, None),
+            Rule::Ranges => {
+                let why = self.conversion_fails(to, operand)?;
+                Some(meant(at, plus(1, width_of_operand(operand)), why))
+            }
+            _ => None,
+        }
+    }
+
+    /// An expression that breaks the rule, if its operands alone do not.
+    #[tactic(auto, using(crate::proofs::Places::itself))]
+    fn in_whole(self, at: usize, expr: &Expr) -> Found<'a>
+        ensures { IfSome result (IsCause (known_at self.entry) (written (expression_of expr.now)) at) }
+    {
+        match self.rule {
+            Rule::Types => self.in_typed(at, expr),
+            Rule::Ranges => Some(meant(at, width_of(expr), self.operator_fails(expr)?)),
+            _ => None,
+        }
+    }
+
+    /// The part of an expression that breaks the rule.
+    #[cycle(search)]
+    pub(crate) fn in_expression(self, at: usize, expr: &Expr) -> Found<'a>
+        ensures { IfSome result (IsCause (known_at self.entry) (written (expression_of expr.now)) at) }
+    {
+        if let Some(cause) = self.in_operands(at, expr) {
+            return Some(cause);
+        }
+        self.in_whole(at, expr)
+    }
+
+    /// The part of an operand of an expression that breaks the rule.
+    #[cycle(search)]
+    fn in_operands(self, at: usize, expr: &Expr) -> Found<'a>
+        ensures { IfSome result (IsCause (known_at self.entry) (written (expression_of expr.now)) at) }
+    {
+        match &*expr.operation {
+            Operation::Operand(operand) => self.in_operand(at, operand),
+            Operation::Prefix { operand, .. } => self.in_operand(plus(at, 1), operand),
+            Operation::Pair { left, right, .. } => {
+                if let Some(cause) = self.in_operand(at, left) {
+                    return Some(cause);
+                }
+                let next = plus_between(at, width_of_operand(left));
+                self.in_operand(next, right)
+            }
+            Operation::Chain {
+                operator,
                 first,
                 second,
                 others,
-            };
-            in_chained(scope, rule, at, expr, *operator, operands)
+            } => {
+                if let Some(cause) = self.in_joined(at, *operator, first) {
+                    return Some(cause);
+                }
+                let next = plus_between(at, width_of_operand(first));
+                if let Some(cause) = self.in_joined(next, *operator, second) {
+                    return Some(cause);
+                }
+                let after = plus(next, width_of_operand(second));
+                self.in_others(after, *operator, others)
+            }
         }
     }
-}
 
-/// The part of an expression that breaks a rule.
-#[cycle(search)]
-pub(crate) fn in_expression<'a>(
-    scope: &Scope<'a>,
-    rule: Rule,
-    at: usize,
-    expr: &Expr<'a>,
-) -> Option<Cause<'a>>
-    ensures { IfSome result (IsCause (entries_of scope.now) (written (expression_of expr.now)) at) }
-{
-    if let Some(cause) = in_operands(scope, rule, at, expr) {
-        return Some(cause);
-    }
-    in_whole(scope, rule, at, expr)
-}
-
-/// The part of an operand of an expression that breaks a rule.
-#[cycle(search)]
-fn in_operands<'a>(scope: &Scope<'a>, rule: Rule, at: usize, expr: &Expr<'a>) -> Option<Cause<'a>>
-    ensures { IfSome result (IsCause (entries_of scope.now) (written (expression_of expr.now)) at) }
-{
-    match &*expr.operation {
-        Operation::Operand(operand) => in_operand(scope, rule, at, operand),
-        Operation::Prefix { operand, .. } => in_operand(scope, rule, plus(at, 1), operand),
-        Operation::Pair { left, right, .. } => {
-            if let Some(cause) = in_operand(scope, rule, at, left) {
+    /// The part of one of the further operands of a chain that breaks the rule.
+    #[cycle(search)]
+    fn in_others(self, at: usize, operator: ChainOperator, others: &[Operand]) -> Found<'a>
+        ensures { IfSome result (IsCause (known_at self.entry) (written_others operator (map term_of others.now)) at) }
+    {
+        let mut next = at;
+        for other in others {
+            if let Some(cause) = self.in_joined(plus(next, 1), operator, other) {
                 return Some(cause);
             }
-            let next = plus_between(at, width_of_operand(left));
-            in_operand(scope, rule, next, right)
+            next = plus_between(next, width_of_operand(other));
         }
-        Operation::Chain {
-            operator,
-            first,
-            second,
-            others,
-        } => {
-            if let Some(cause) = in_joined(scope, rule, at, *operator, first) {
-                return Some(cause);
-            }
-            let next = plus_between(at, width_of_operand(first));
-            if let Some(cause) = in_joined(scope, rule, next, *operator, second) {
-                return Some(cause);
-            }
-            let after = plus(next, width_of_operand(second));
-            in_others(scope, rule, after, *operator, others)
-        }
+        None
     }
-}
 
-/// The part of one of the further operands of a chain that breaks a rule.
-#[cycle(search)]
-fn in_others<'a>(
-    scope: &Scope<'a>,
-    rule: Rule,
-    at: usize,
-    operator: ChainOperator,
-    others: &[Operand<'a>],
-) -> Option<Cause<'a>>
-    ensures { IfSome result (IsCause (entries_of scope.now) (written_others operator (map term_of others.now)) at) }
-{
-    let mut next = at;
-    for other in others {
-        if let Some(cause) = in_joined(scope, rule, plus(next, 1), operator, other) {
+    /// The part of an operand that breaks the rule, where an operator joins it to others.
+    #[cycle(search)]
+    fn in_joined(self, at: usize, operator: ChainOperator, operand: &Operand) -> Found<'a>
+        ensures { IfSome result (IsCause (known_at self.entry) (written_term (term_of operand.now)) at) }
+    {
+        if let Some(cause) = self.in_operand(at, operand) {
             return Some(cause);
         }
-        next = plus_between(next, width_of_operand(other));
-    }
-    None
-}
-
-/// The part of an operand that breaks a rule, where an operator joins it to others.
-#[cycle(search)]
-fn in_joined<'a>(
-    scope: &Scope<'a>,
-    rule: Rule,
-    at: usize,
-    operator: ChainOperator,
-    operand: &Operand<'a>,
-) -> Option<Cause<'a>>
-    ensures { IfSome result (IsCause (entries_of scope.now) (written_term (term_of operand.now)) at) }
-{
-    if let Some(cause) = in_operand(scope, rule, at, operand) {
-        return Some(cause);
-    }
-    if rule == Rule::Types {
-        return other_operand(scope, at, operand, operand_type(operator));
-    }
-    None
-}
-
-/// The part of an operand that breaks a rule.
-#[cycle(search)]
-fn in_operand<'a>(
-    scope: &Scope<'a>,
-    rule: Rule,
-    at: usize,
-    operand: &Operand<'a>,
-) -> Option<Cause<'a>>
-    ensures { IfSome result (IsCause (entries_of scope.now) (written_term (term_of operand.now)) at) }
-{
-    match operand {
-        Operand::Integer(_)
-        | Operand::Character(_)
-        | Operand::Truth(_)
-        | Operand::MostPos
-        | Operand::MostNeg => None,
-        Operand::Name(name) => in_name(scope, rule, Sort::Scalar, at, name),
-        Operand::Element { name, subscript } => {
-            if let Some(cause) = in_element(scope, rule, at, name, subscript) {
-                return Some(cause);
-            }
-            let next = plus(at, 2);
-            if let Some(cause) = in_expression(scope, rule, next, subscript) {
-                return Some(cause);
-            }
-            subscript_breaks(scope, rule, next, name, subscript)
+        if self.rule == Rule::Types {
+            return self.unfit(at, operand, Some(operand_type(operator)));
         }
-        Operand::Bracketed(inner) => in_expression(scope, rule, plus(at, 1), inner),
-        Operand::Converted { to, operand } => {
-            if let Some(cause) = in_operand(scope, rule, plus(at, 1), operand) {
-                return Some(cause);
+        None
+    }
+
+    /// The part of an operand that breaks the rule.
+    #[cycle(search)]
+    fn in_operand(self, at: usize, operand: &Operand) -> Found<'a>
+        ensures { IfSome result (IsCause (known_at self.entry) (written_term (term_of operand.now)) at) }
+    {
+        match operand {
+            Operand::Integer(_)
+            | Operand::Character(_)
+            | Operand::Truth(_)
+            | Operand::MostPos
+            | Operand::MostNeg => None,
+            Operand::Name(name) => self.in_name(Sort::Scalar, at, name),
+            Operand::Element { name, subscript } => {
+                if let Some(cause) = self.in_element(at, name, subscript) {
+                    return Some(cause);
+                }
+                let next = plus(at, 2);
+                if let Some(cause) = self.in_expression(next, subscript) {
+                    return Some(cause);
+                }
+                self.no_subscript(next, name, subscript)
             }
-            in_converted(scope, rule, at, *to, operand)
+            Operand::Bracketed(inner) => self.in_expression(plus(at, 1), inner),
+            Operand::Converted { to, operand } => {
+                if let Some(cause) = self.in_operand(plus(at, 1), operand) {
+                    return Some(cause);
+                }
+                self.in_converted(at, *to, operand)
+            }
         }
     }
 }

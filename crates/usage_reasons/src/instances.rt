@@ -4,22 +4,19 @@ ghost use Rattle.std.specs.Prelude.{◌≡◌, IfSome, Some, map, option_map};
 ghost use Rattle.std.specs.List.{slice_get};
 ghost use Rattle.occam_parser.specs.Views.{expression_of};
 ghost use Rattle.scalar_ranges.specs.Environments.{item_at};
-ghost use Rattle.scalar_ranges.specs.Scopes.{entries_of};
 ghost use Rattle.program_uses.specs.Signatures.{parameter_of};
 ghost use Rattle.usage_reasons.specs.AtFault.{IsAtFault};
 ghost use Rattle.usage_reasons.specs.Calls.{parameters_for};
 ghost use Rattle.usage_reasons.specs.Causes.{Explains};
+ghost use Rattle.usage_reasons.specs.Sites.{known_at};
 
-use crate::cause::{Cause, Rule};
-use crate::expressions::in_name;
-use crate::lines::{in_subscript, in_wanted};
-use crate::passing::{mispassed, not_taken, passed_twice};
+use crate::cause::{Found, Rule, meant};
 use crate::reason::{Sort, Tokens, Why};
-use crate::tokens::{plus, plus_between, width_of};
+use crate::site::Site;
+use crate::tokens::{plus_between, width_of};
 use occam_parser::Expr;
-use program_uses::{Parameter, PlaceRef, Signature, count_of_parameters, parameter_at, place_in};
-use scalar_ranges::Scope;
-use usage_checks::{Position, Wanted, subscript_for};
+use program_uses::{Parameter, count_of_parameters, parameter_at, place_in};
+use usage_checks::{Wanted, subscript_for};
 
 /// Where the first actual begins.
 const ACTUALS: usize = 2;
@@ -33,114 +30,70 @@ pub(crate) struct Passed<'s, 'a> {
     pub(crate) tokens: Tokens,
 }
 
-/// An instance on a line with this many tokens.
+/// An instance.
 #[derive(Clone, Copy)]
 pub(crate) struct Instance<'s, 'a> {
-    pub(crate) signatures: &'s [Signature],
+    pub(crate) site: Site<'s, 'a>,
     pub(crate) name: &'s [u8],
     pub(crate) actuals: &'s [Expr<'a>],
-    pub(crate) len: usize,
 }
 
-/// What is wanted of a subscript of what is passed to a parameter.
-fn wanted_subscript(parameter: Option<&Parameter>) -> Wanted {
-    match parameter {
-        Some(parameter) => subscript_for(Some(parameter.meaning)),
-        None => subscript_for(None),
-    }
-}
-
-/// The part of an actual that breaks a rule, which is exactly this place.
-#[tactic(auto, using(crate::proofs::Parts::of_cause))]
-fn in_passed_place<'a>(
-    scope: &Scope<'a>,
-    rule: Rule,
-    passed: Passed<'_, 'a>,
-    place: PlaceRef<'_, 'a>,
-) -> Option<Cause<'a>>
-    ensures { IfSome result (Explains (entries_of scope.now)) }
-{
-    let at = passed.tokens.at;
-    if rule == Rule::Names {
-        if let Some(cause) = in_name(scope, rule, Sort::Scalar, at, place.name) {
-            return Some(cause);
+impl<'a> Site<'_, 'a> {
+    /// The part of an actual that breaks a rule of expressions.
+    #[tactic(auto, using(crate::proofs::Parts::of_cause_if, crate::proofs::Parts::first_of))]
+    fn in_passed(self, passed: Passed) -> Found<'a>
+        ensures { IfSome result (Explains (known_at self.entry)) }
+    {
+        let at = passed.tokens.at;
+        let Some(place) = place_in(passed.actual) else {
+            return self.in_wanted(at, Wanted::Anything, passed.actual);
+        };
+        let wanted = match passed.parameter {
+            Some(parameter) => subscript_for(Some(parameter.meaning)),
+            None => subscript_for(None),
+        };
+        let inner = self.in_subscript(at, wanted, place);
+        if self.rule == Rule::Names {
+            self.in_name(Sort::Scalar, at, place.name).or(inner)
+        } else {
+            inner
         }
-    }
-    let subscript = place.subscript?;
-    let wanted = wanted_subscript(passed.parameter);
-    in_subscript(scope, rule, plus(at, 2), wanted, place.name, subscript)
-}
-
-/// The part of an actual that breaks a rule of expressions.
-fn in_passed<'a>(scope: &Scope<'a>, rule: Rule, passed: Passed<'_, 'a>) -> Option<Cause<'a>>
-    ensures { IfSome result (Explains (entries_of scope.now)) }
-{
-    match place_in(passed.actual) {
-        Some(place) => in_passed_place(scope, rule, passed, place),
-        None => in_wanted(
-            scope,
-            rule,
-            passed.tokens.at,
-            Wanted::Anything,
-            passed.actual,
-        ),
     }
 }
 
 impl<'s, 'a> Instance<'s, 'a> {
     /// The actual with this number, whose first token is this one.
-    fn passed(self, scope: &Scope<'a>, place: usize, at: usize) -> Option<Passed<'s, 'a>>
+    fn passed(self, place: usize, at: usize) -> Option<Passed<'s, 'a>>
         ensures parameter { IfSome result (λ p. option_map (λ q. parameter_of q.now) p.parameter
-            ≡ item_at place (parameters_for (entries_of scope.now) self.entry)) }
+            ≡ item_at place (parameters_for self.entry)) }
         ensures actual { IfSome result (λ p. slice_get (map expression_of self.entry.actuals.now) place
             ≡ Some (expression_of p.actual.now)) }
     {
         let actual = self.actuals.get(place)?;
         let len = width_of(actual);
+        let procedure = self.site.scope.meaning(self.name);
         Some(Passed {
             place,
-            parameter: parameter_at(self.signatures, scope.meaning(self.name), place),
+            parameter: parameter_at(self.site.signatures, procedure, place),
             actual,
             tokens: Tokens { at, len },
         })
     }
 
-    /// The part of an actual that breaks a rule of expressions.
-    fn in_actuals(self, scope: &Scope<'a>, rule: Rule) -> Option<Cause<'a>>
-        ensures { IfSome result (Explains (entries_of scope.now)) }
-    {
-        let mut at = ACTUALS;
-        for place in 0..self.actuals.len() {
-            let passed = self.passed(scope, place, at)?;
-            if let Some(cause) = in_passed(scope, rule, passed) {
-                return Some(cause);
-            }
-            at = plus_between(at, passed.tokens.len);
-        }
-        None
-    }
-
     /// The part of the instance that breaks a rule of expressions.
     #[tactic(auto, using(crate::proofs::Parts::of_cause))]
-    pub(crate) fn breaks(self, scope: &Scope<'a>, rule: Rule) -> Option<Cause<'a>>
-        ensures { IfSome result (Explains (entries_of scope.now)) }
+    pub(crate) fn breaks(self) -> Found<'a>
+        ensures { IfSome result (Explains (known_at self.entry.site)) }
     {
-        if rule == Rule::Names || rule == Rule::Types {
-            if let Some(cause) = in_name(scope, rule, Sort::Procedure, 0, self.name) {
+        if self.site.rule == Rule::Names || self.site.rule == Rule::Types {
+            if let Some(cause) = self.site.in_name(Sort::Procedure, 0, self.name) {
                 return Some(cause);
             }
         }
-        self.in_actuals(scope, rule)
-    }
-
-    /// An actual that its parameter does not take.
-    fn refused(self, scope: &Scope<'a>) -> Option<Cause<'a>>
-        ensures { IfSome result IsAtFault }
-    {
         let mut at = ACTUALS;
         for place in 0..self.actuals.len() {
-            let passed = self.passed(scope, place, at)?;
-            if let Some(cause) = not_taken(scope, passed) {
+            let passed = self.passed(place, at)?;
+            if let Some(cause) = self.site.in_passed(passed) {
                 return Some(cause);
             }
             at = plus_between(at, passed.tokens.len);
@@ -150,64 +103,50 @@ impl<'s, 'a> Instance<'s, 'a> {
 
     /// An actual that its parameter does not take, or another number of them than of parameters.
     #[tactic(auto, using(crate::specs::AtFault::other_count))]
-    pub(crate) fn other_actual(self, scope: &Scope<'a>) -> Option<Cause<'a>>
+    pub(crate) fn other_actual(self) -> Found<'a>
         ensures { IfSome result IsAtFault }
     {
         let actuals = self.actuals.len();
-        let parameters = count_of_parameters(self.signatures, scope.meaning(self.name));
+        let procedure = self.site.scope.meaning(self.name);
+        let parameters = count_of_parameters(self.site.signatures, procedure);
         if actuals == parameters {
-            return self.refused(scope);
+            return self.mispassed();
         }
-        Some(Cause {
-            tokens: Tokens {
-                at: 0,
-                len: self.len,
-            },
-            why: Why::OtherCount {
-                actuals,
-                parameters,
-            },
-        })
+        let why = Why::OtherCount {
+            actuals,
+            parameters,
+        };
+        Some(meant(0, self.site.len, why))
     }
 
-    /// An actual that is a channel and may not be passed here.
-    pub(crate) fn mispassed(self, scope: &Scope<'a>, position: Position) -> Option<Cause<'a>>
+    /// An actual that may not be passed here: its parameter does not take it, it is a channel, or it is passed twice.
+    pub(crate) fn mispassed(self) -> Found<'a>
         ensures { IfSome result IsAtFault }
     {
         let mut at = ACTUALS;
         for place in 0..self.actuals.len() {
-            let passed = self.passed(scope, place, at)?;
-            if let Some(cause) = mispassed(position, scope, passed) {
-                return Some(cause);
+            let passed = self.passed(place, at)?;
+            let found = match self.site.rule {
+                Rule::Actuals => self.site.not_taken(passed),
+                Rule::Channels => self.site.misused_actual(passed),
+                _ => self.passed_before(passed),
+            };
+            if found.is_some() {
+                return found;
             }
             at = plus_between(at, passed.tokens.len);
         }
         None
     }
 
-    /// An actual that may not be passed beside one before it.
-    pub(crate) fn passed_twice(self, scope: &Scope<'a>) -> Option<Cause<'a>>
-        ensures { IfSome result IsAtFault }
-    {
-        let mut at = ACTUALS;
-        for place in 0..self.actuals.len() {
-            let second = self.passed(scope, place, at)?;
-            if let Some(cause) = self.passed_before(scope, second) {
-                return Some(cause);
-            }
-            at = plus_between(at, second.tokens.len);
-        }
-        None
-    }
-
     /// This actual, if it may not be passed beside one before it.
-    fn passed_before(self, scope: &Scope<'a>, second: Passed<'s, 'a>) -> Option<Cause<'a>>
+    fn passed_before(self, second: Passed<'s, 'a>) -> Found<'a>
         ensures { IfSome result IsAtFault }
     {
         let mut at = ACTUALS;
         for place in 0..second.place {
-            let first = self.passed(scope, place, at)?;
-            if let Some(cause) = passed_twice(scope, first, second) {
+            let first = self.passed(place, at)?;
+            if let Some(cause) = self.site.passed_twice(first, second) {
                 return Some(cause);
             }
             at = plus_between(at, first.tokens.len);

@@ -11,32 +11,15 @@ use crate::reason::Reason;
 use crate::site::Part;
 use crate::walk::{Walk, tested};
 use occam_layout::Token;
-use occam_parser::{Constant, Formal, Item, Proc, Program};
-use program_uses::{Around, NO_MAIN, Parameter, UsageFault, Uses, constant_meaning, signed};
+use occam_parser::{Item, Proc, Program};
+use program_uses::{Around, NO_MAIN, Parameter, UsageFault, Uses, signed};
 use scalar_ranges::Meaning;
 use std::alloc::{AllocError, Global};
 use usage_checks::{Position, is_main_name, parameters_for};
 
 impl<'a> Walk<'_, 'a> {
-    /// A constant of the program.
-    fn constant(&mut self, constant: &Constant<'a>) {
-        self.look(constant.line, Part::Constant(constant));
-        let meaning = constant_meaning(&self.scope, constant.value_type, &constant.value);
-        self.enter(0, constant.line, constant.name, meaning);
-    }
-
-    /// The names of formals, on the line of their procedure.
-    fn formals(&mut self, line: u32, formals: &[Formal<'a>], parameters: &[Parameter]) {
-        let first = self.scope.len();
-        for (place, formal) in formals.iter().enumerate() {
-            if let Some(parameter) = parameters.get(place) {
-                self.enter(first, line, formal.name, parameter.meaning);
-            }
-        }
-    }
-
-    /// What a body uses of what is declared around it.
-    fn uses(&mut self, proc: &Proc<'a>) -> Uses {
+    /// A procedure that ends before the line at fault: what is known of it by those that call it.
+    fn sign(&mut self, first: usize, proc: &Proc<'a>, parameters: Vec<Parameter>) {
         let around = Around {
             signatures: &self.signatures,
             uncounted: None,
@@ -44,12 +27,6 @@ impl<'a> Walk<'_, 'a> {
         let mut used = Uses::new(self.alloc);
         let mut told = None;
         used.collect(&mut told, around, &mut self.scope, &proc.body);
-        used
-    }
-
-    /// A procedure that ends before the line at fault: what is known of it by those that call it.
-    fn sign(&mut self, first: usize, proc: &Proc<'a>, parameters: Vec<Parameter>) {
-        let used = self.uses(proc);
         match signed(self.alloc, parameters, first, &used) {
             Ok(signature) => {
                 let listed = self.signatures.push(signature).is_ok();
@@ -59,8 +36,17 @@ impl<'a> Walk<'_, 'a> {
         }
     }
 
-    /// The body of a procedure in which the line at fault is.
-    fn body(&mut self, first: usize, proc: &Proc<'a>) {
+    /// A procedure, before which the scope has this many names. It ends before the line at fault, or has it.
+    fn within(&mut self, first: usize, proc: &Proc<'a>, ends: bool, parameters: Vec<Parameter>) {
+        for (place, formal) in proc.formals.iter().enumerate() {
+            if let Some(parameter) = parameters.get(place) {
+                self.enter(first, proc.line, formal.name, parameter.meaning);
+            }
+        }
+        if ends {
+            self.sign(first, proc, parameters);
+            return;
+        }
         self.position = Position {
             formals: first,
             declared: self.scope.len(),
@@ -68,16 +54,6 @@ impl<'a> Walk<'_, 'a> {
             is_main: is_main_name(proc.name),
         };
         self.process(&proc.body);
-    }
-
-    /// A procedure, before which the scope has this many names. It ends before the line at fault, or has it.
-    fn within(&mut self, first: usize, proc: &Proc<'a>, ends: bool, parameters: Vec<Parameter>) {
-        self.formals(proc.line, &proc.formals, &parameters);
-        if ends {
-            self.sign(first, proc, parameters);
-        } else {
-            self.body(first, proc);
-        }
     }
 
     /// A procedure.
@@ -96,14 +72,6 @@ impl<'a> Walk<'_, 'a> {
         }
     }
 
-    /// An item, which ends before the line at fault or has it.
-    fn item(&mut self, item: &Item<'a>, ends: bool) {
-        match item {
-            Item::Constant(constant) => self.constant(constant),
-            Item::Proc(proc) => self.procedure(proc, ends),
-        }
-    }
-
     /// The items, as far as the line at fault.
     pub(crate) fn items(&mut self, items: &[Item<'a>]) {
         for (place, item) in items.iter().enumerate() {
@@ -114,7 +82,10 @@ impl<'a> Walk<'_, 'a> {
                 Some(next) => next.line() <= self.fault.line,
                 None => false,
             };
-            self.item(item, ends);
+            match item {
+                Item::Constant(constant) => self.constant(0, constant),
+                Item::Proc(proc) => self.procedure(proc, ends),
+            }
         }
     }
 }
@@ -139,10 +110,13 @@ pub fn usage_reason<'a>(
 {
     if fault.number == NO_MAIN {
         let reason = main_reason(alloc, program.items(), fault.line);
-        Ok(tested(tokens.len(), fault, reason))
+        return Ok(tested(tokens.len(), fault, reason));
+    }
+    let mut walk = Walk::new(alloc, tokens, fault);
+    walk.items(program.items());
+    if walk.complete {
+        Ok(tested(tokens.len(), fault, walk.reason))
     } else {
-        let mut walk = Walk::new(alloc, tokens, fault);
-        walk.items(program.items());
-        walk.finish(tokens.len(), fault)
+        Err(AllocError)
     }
 }

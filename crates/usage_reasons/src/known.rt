@@ -4,7 +4,7 @@ ghost use Rattle.std.specs.Prelude.{IfSome};
 ghost use Rattle.scalar_ranges.specs.Scopes.{entries_of};
 ghost use Rattle.usage_reasons.specs.Causes.{Explains};
 
-use crate::cause::Cause;
+use crate::cause::{Cause, Found, meant};
 use crate::reason::{KnownName, Tokens, Why};
 use occam_layout::{Mark, Token, TokenKind};
 use scalar_ranges::Scope;
@@ -12,16 +12,6 @@ use std::alloc::{AllocError, Global};
 
 /// How many names a reason tells of at most.
 const MAX_KNOWN: usize = 8;
-
-/// Whether a name is among those of which something is known.
-fn is_known(known: &[KnownName], name: &[u8]) -> bool {
-    for other in known {
-        if other.name == name {
-            return true;
-        }
-    }
-    false
-}
 
 /// Whether the token with this number is one of some.
 fn is_among(tokens: Tokens, at: usize) -> bool {
@@ -31,16 +21,14 @@ fn is_among(tokens: Tokens, at: usize) -> bool {
 /// The tokens besides those that are meant, of whose names a reason tells too: of a subscript its array, of a value the
 /// place that it goes to, of an actual its procedure or the actual before it.
 fn other_tokens(tokens: Tokens, why: Why) -> Tokens {
-    match why {
-        Why::Outside { .. } => Tokens {
-            at: tokens.at.saturating_sub(2),
-            len: 1,
-        },
-        Why::OtherPlaceType { place, .. } => place,
-        Why::PassedTwice { first } => first,
-        Why::NotTaken { .. } => Tokens { at: 0, len: 1 },
-        _ => Tokens { at: 0, len: 0 },
-    }
+    let (at, len) = match why {
+        Why::Outside { .. } => (tokens.at.saturating_sub(2), 1),
+        Why::NotTaken { .. } => (0, 1),
+        Why::OtherPlaceType { place, .. } => (place.at, place.len),
+        Why::PassedTwice { first } => (first.at, first.len),
+        _ => (0, 0),
+    };
+    Tokens { at, len }
 }
 
 /// The names in scope, with the line of each declaration by its number.
@@ -57,13 +45,8 @@ impl<'a> Names<'_, 'a> {
     }
 
     /// What is known of a name.
-    fn known(self, name: &'a [u8]) -> Option<KnownName<'a>> {
-        let found = self.scope.lookup(name)?;
-        Some(KnownName {
-            name,
-            meaning: found.meaning,
-            line: self.line_of(found.number),
-        })
+    fn known(self, name: &[u8]) -> Option<KnownName<'a>> {
+        self.declared(self.scope.find(name)?)
     }
 
     /// The declaration with this number.
@@ -77,9 +60,11 @@ impl<'a> Names<'_, 'a> {
     }
 
     /// One name more of which something is known, unless it is among them already.
-    fn note(self, known: &mut Vec<KnownName<'a>>, name: &'a [u8]) -> Result<(), AllocError> {
-        if is_known(known, name) {
-            return Ok(());
+    fn note(self, known: &mut Vec<KnownName<'a>>, name: &[u8]) -> Result<(), AllocError> {
+        for other in known.iter() {
+            if other.name == name {
+                return Ok(());
+            }
         }
         match self.known(name) {
             Some(name) => Ok(known.push(name)?),
@@ -116,7 +101,7 @@ impl<'a> Names<'_, 'a> {
         line: u32,
         tokens: &[Token<'a>],
         name: &[u8],
-    ) -> Option<Cause<'a>>
+    ) -> Found<'a>
         ensures { IfSome result (Explains (entries_of self.entry.scope.now)) }
     {
         let number = self.scope.find(name)?;
@@ -125,10 +110,7 @@ impl<'a> Names<'_, 'a> {
         }
         let first = self.line_of(number);
         let at = token_of(tokens, name, first == line)?;
-        Some(Cause {
-            tokens: Tokens { at, len: 1 },
-            why: Why::DeclaredTwice { first },
-        })
+        Some(meant(at, 1, Why::DeclaredTwice { first }))
     }
 }
 

@@ -10,17 +10,14 @@ mod items;
 mod known;
 mod lines;
 mod main_reason;
-mod names;
 mod nearest;
 mod operators;
 mod passing;
 mod reason;
 mod sharing;
 mod site;
-mod sorts;
-mod subscripts;
+mod small_parts;
 mod tokens;
-mod types;
 mod walk;
 
 pub use items::usage_reason;

@@ -2,14 +2,14 @@
 
 ghost use Rattle.std.specs.Prelude.{◌≡◌, true, false, IfSome, MatchOption, map, option_map};
 ghost use Rattle.occam_parser.specs.LineViews.{formal_of};
-ghost use Rattle.occam_parser.specs.BlockViews.{item_of, procedure_of};
+ghost use Rattle.occam_parser.specs.BlockViews.{item_of};
 ghost use Rattle.usage_checks.specs.MainRules.{are_links};
-ghost use Rattle.usage_reasons.specs.LastItems.{fault_of_procedure, fault_of_last, IsMainReason};
+ghost use Rattle.usage_reasons.specs.LastItems.{fault_of_last, IsMainReason};
 
 use crate::declarations::width_of_formal;
 use crate::reason::{LastItem, Reason, Tokens, Why};
 use crate::tokens::plus_between;
-use occam_parser::{Formal, Item, Proc};
+use occam_parser::{Formal, Item};
 use std::alloc::Global;
 use usage_checks::{is_link_as, is_main_name};
 
@@ -29,18 +29,6 @@ fn no_link(formals: &[Formal]) -> Option<Tokens>
     None
 }
 
-/// What is wrong with a procedure as the last item, and its tokens that are meant.
-fn in_procedure(proc: &Proc) -> Option<(LastItem, Tokens)>
-    ensures { option_map (λ f. f.0) result ≡ fault_of_procedure (procedure_of proc.now) }
-{
-    if is_main_name(proc.name) {
-        let tokens = no_link(&proc.formals)?;
-        Some((LastItem::NoLink, tokens))
-    } else {
-        Some((LastItem::OtherName, Tokens { at: 1, len: 1 }))
-    }
-}
-
 /// What is wrong with the last item, if there is one, and its tokens that are meant.
 fn in_last(last: Option<&Item>) -> Option<(LastItem, Tokens)>
     ensures { option_map (λ f. f.0) result ≡ fault_of_last (option_map (λ i. item_of i.now) last.entry) }
@@ -48,7 +36,11 @@ fn in_last(last: Option<&Item>) -> Option<(LastItem, Tokens)>
     match last {
         None => Some((LastItem::Missing, Tokens { at: 0, len: 0 })),
         Some(Item::Constant(_)) => Some((LastItem::Constant, Tokens { at: 0, len: 1 })),
-        Some(Item::Proc(proc)) => in_procedure(proc),
+        Some(Item::Proc(proc)) if is_main_name(proc.name) => {
+            let tokens = no_link(&proc.formals)?;
+            Some((LastItem::NoLink, tokens))
+        }
+        Some(Item::Proc(_)) => Some((LastItem::OtherName, Tokens { at: 1, len: 1 })),
     }
 }
 

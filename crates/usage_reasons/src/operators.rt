@@ -1,30 +1,28 @@
 //! Why an operator or a conversion breaks a rule, whose operands break none.
 
-ghost use Rattle.std.specs.Prelude.{◌≡◌, List, Ok, IfSome};
+ghost use Rattle.std.specs.Prelude.{◌≡◌, List, Ok, map, IfSome};
 ghost use Rattle.word_arithmetic.specs.Range.{ends_of};
-ghost use Rattle.occam_parser.specs.declared.tree.PrefixOperator.{PrefixOperator};
-ghost use Rattle.occam_parser.specs.Expressions.{Expression, Prefixed, Paired, Chained, Converted, written};
-ghost use Rattle.occam_parser.specs.Expressions.{written_term};
+ghost use Rattle.occam_parser.specs.Expressions.{Expression, Converted, Two, written, written_term};
+ghost use Rattle.occam_parser.specs.Views.{expression_of, term_of, with_others};
 ghost use Rattle.scalar_ranges.specs.Entries.{Entry};
-ghost use Rattle.occam_parser.specs.Views.{expression_of, term_of};
 ghost use Rattle.scalar_ranges.specs.Bounds.{bound_of_term, range_found};
-ghost use Rattle.scalar_ranges.specs.Scopes.{entries_of};
-ghost use Rattle.usage_reasons.specs.Causes.{AreJoined, Breaks, Fails};
-ghost use Rattle.usage_reasons.specs.Chains.{terms_of};
+ghost use Rattle.usage_reasons.specs.Causes.{AreJoined, AreOperands, Breaks, Fails};
+ghost use Rattle.usage_reasons.specs.Sites.{known_at};
 
 use crate::reason::{Operator, Results, Why};
+use crate::site::Site;
 use occam_parser::{
-    ArithmeticChain, ArithmeticPair, ChainOperator, Expr, Operand, PairOperator, ValueType,
+    ArithmeticChain, ArithmeticPair, ChainOperator, Expr, Operand, Operation, PairOperator,
+    ValueType,
 };
-use scalar_ranges::{OUT_OF_RANGE, Scope, read, read_operand, type_range};
+use scalar_ranges::{OUT_OF_RANGE, read, read_operand, type_range};
 use word_arithmetic::{Binary, Range};
 
-/// The least and the greatest of four numbers.
-fn hull_of(first: i64, second: i64, third: i64, fourth: i64) -> Results {
-    Results {
-        lo: first.min(second).min(third.min(fourth)),
-        hi: first.max(second).max(third.max(fourth)),
-    }
+/// Where two operands lie. The left one is 0 if there is no such operand.
+#[derive(Clone, Copy)]
+struct Ranges {
+    left: Range,
+    right: Range,
 }
 
 /// The product of two words.
@@ -32,53 +30,48 @@ fn product(left: i32, right: i32) -> i64 {
     i64::from(left).wrapping_mul(i64::from(right))
 }
 
-/// Where the products of two ranges lie.
-fn products(left: Range, right: Range) -> Results {
-    hull_of(
-        product(left.lo, right.lo),
-        product(left.lo, right.hi),
-        product(left.hi, right.lo),
-        product(left.hi, right.hi),
-    )
-}
-
-/// Where the differences of two ranges lie.
-fn differences(left: Range, right: Range) -> Results {
-    Results {
-        lo: i64::from(left.lo) - i64::from(right.hi),
-        hi: i64::from(left.hi) - i64::from(right.lo),
-    }
-}
-
-/// Where the sums of two ranges lie.
-fn sums(left: Range, right: Range) -> Results {
-    Results {
-        lo: i64::from(left.lo) + i64::from(right.lo),
-        hi: i64::from(left.hi) + i64::from(right.hi),
-    }
-}
-
 /// Where the results of an operator lie that may overflow.
 fn results_of(operator: Operator, left: Range, right: Range) -> Results {
     match operator {
-        Operator::Negate | Operator::Pair(_) => differences(left, right),
+        Operator::Negate | Operator::Pair(_) => Results {
+            lo: i64::from(left.lo) - i64::from(right.hi),
+            hi: i64::from(left.hi) - i64::from(right.lo),
+        },
         Operator::Chain(ArithmeticChain::Multiply) => products(left, right),
-        Operator::Chain(_) => sums(left, right),
+        Operator::Chain(_) => Results {
+            lo: i64::from(left.lo) + i64::from(right.lo),
+            hi: i64::from(left.hi) + i64::from(right.hi),
+        },
+    }
+}
+
+/// Where the products of two ranges lie.
+fn products(left: Range, right: Range) -> Results {
+    let (low, mixed) = (product(left.lo, right.lo), product(left.lo, right.hi));
+    let (other, high) = (product(left.hi, right.lo), product(left.hi, right.hi));
+    Results {
+        lo: low.min(mixed).min(other.min(high)),
+        hi: low.max(mixed).max(other.max(high)),
     }
 }
 
 /// Why an operator fails whose operands lie there.
 #[tactic(auto, using(crate::proofs::Causes::operators_fail))]
-fn failing<'a>(operator: Operator, left: Range, right: Range) -> Why<'a>
-    ensures { (es : List Entry) (e : Expression) → Fails es e left right → Breaks es (written e) result }
+fn failing<'a>(operator: Operator, ranges: Ranges) -> Why<'a>
+    ensures { (es : List Entry) (e : Expression) → Fails es e ranges.left ranges.right → Breaks es (written e) result }
 {
+    let Ranges { left, right } = ranges;
     match operator {
-        Operator::Pair(pair) if is_division(pair) => Why::Division {
-            operator: pair,
-            dividend: left,
-            divisor: right,
-        },
-        Operator::Pair(pair) if is_shift(pair) => Why::ShiftCount { count: right },
+        Operator::Pair(operator @ (ArithmeticPair::Divide | ArithmeticPair::Remainder)) => {
+            Why::Division {
+                operator,
+                dividend: left,
+                divisor: right,
+            }
+        }
+        Operator::Pair(ArithmeticPair::ShiftLeft | ArithmeticPair::ShiftRight) => {
+            Why::ShiftCount { count: right }
+        }
         _ => Why::Overflow {
             operator,
             left,
@@ -86,96 +79,6 @@ fn failing<'a>(operator: Operator, left: Range, right: Range) -> Why<'a>
             results: results_of(operator, left, right),
         },
     }
-}
-
-/// Whether an operator divides.
-fn is_division(operator: ArithmeticPair) -> bool {
-    matches!(operator, ArithmeticPair::Divide | ArithmeticPair::Remainder)
-}
-
-/// Whether an operator shifts.
-fn is_shift(operator: ArithmeticPair) -> bool {
-    matches!(
-        operator,
-        ArithmeticPair::ShiftLeft | ArithmeticPair::ShiftRight
-    )
-}
-
-/// Why `-` fails before an operand, which are this expression.
-#[tactic(auto, using(crate::proofs::Causes::operators_fail))]
-pub(crate) fn prefix_fails<'a>(scope: &Scope, expr: &Expr, operand: &Operand) -> Option<Why<'a>>
-    requires { (op : PrefixOperator) × (expression_of expr.now ≡ Prefixed op (term_of operand.now)) }
-    ensures { IfSome result (Breaks (entries_of scope.now) (written (expression_of expr.now))) }
-{
-    match (
-        read_operand(scope, operand).range(),
-        read(scope, expr).range(),
-    ) {
-        (Ok(right), Err(number)) if number == OUT_OF_RANGE => {
-            Some(failing(Operator::Negate, Range::constant(0), right))
-        }
-        _ => None,
-    }
-}
-
-/// Why an operator fails between two operands, which are this expression.
-#[tactic(auto, using(crate::proofs::Causes::operators_fail))]
-pub(crate) fn pair_fails<'a>(
-    scope: &Scope,
-    expr: &Expr,
-    operator: PairOperator,
-    left: &Operand,
-    right: &Operand,
-) -> Option<Why<'a>>
-    requires { expression_of expr.now ≡ Paired operator (term_of left.now) (term_of right.now) }
-    ensures { IfSome result (Breaks (entries_of scope.now) (written (expression_of expr.now))) }
-{
-    let PairOperator::Arithmetic(operator) = operator else {
-        return None;
-    };
-    let (left, right) = (
-        read_operand(scope, left).range(),
-        read_operand(scope, right).range(),
-    );
-    match (left, right, read(scope, expr).range()) {
-        (Ok(left), Ok(right), Err(number)) if number == OUT_OF_RANGE => {
-            Some(failing(Operator::Pair(operator), left, right))
-        }
-        _ => None,
-    }
-}
-
-/// Why a conversion of an operand to this type fails.
-#[tactic(auto, using(crate::proofs::Causes::operators_fail))]
-pub(crate) fn conversion_fails<'a>(
-    scope: &Scope,
-    to: ValueType,
-    operand: &Operand,
-) -> Option<Why<'a>>
-    ensures { IfSome result (Breaks (entries_of scope.now) (written_term (Converted to (term_of operand.now)))) }
-{
-    let Ok(operand) = read_operand(scope, operand).range() else {
-        return None;
-    };
-    if operand.fits_within(type_range(to)) {
-        return None;
-    }
-    Some(Why::Conversion { to, operand })
-}
-
-/// The operands of a chain.
-#[derive(Clone, Copy)]
-pub(crate) struct ChainOperands<'e, 'a> {
-    pub(crate) first: &'e Operand<'a>,
-    pub(crate) second: &'e Operand<'a>,
-    pub(crate) others: &'e [Operand<'a>],
-}
-
-/// Where two operands lie.
-#[derive(Clone, Copy)]
-struct Ranges {
-    left: Range,
-    right: Range,
 }
 
 /// What the operands of a chain have come to, if it does not fail there.
@@ -187,70 +90,102 @@ fn joined(operator: ArithmeticChain, ranges: Ranges) -> Option<Range> {
     }
 }
 
-/// Where two operands lie, if both have a range.
-fn ranges_of(scope: &Scope, left: &Operand, right: &Operand) -> Option<Ranges>
-    ensures { IfSome result (λ r.
-        (range_found (bound_of_term (entries_of scope.now) (term_of left.now)) ≡ Ok (ends_of r.left))
-        × (range_found (bound_of_term (entries_of scope.now) (term_of right.now)) ≡ Ok (ends_of r.right))) }
-{
-    match (
-        read_operand(scope, left).range(),
-        read_operand(scope, right).range(),
-    ) {
-        (Ok(left), Ok(right)) => Some(Ranges { left, right }),
-        _ => None,
+impl<'a> Site<'_, 'a> {
+    /// Why a conversion of an operand to this type fails.
+    #[tactic(auto, using(crate::proofs::Causes::operators_fail))]
+    pub(crate) fn conversion_fails(self, to: ValueType, operand: &Operand) -> Option<Why<'a>>
+        ensures { IfSome result (Breaks (known_at self.entry) (written_term (Converted to (term_of operand.now)))) }
+    {
+        let Ok(operand) = read_operand(self.scope, operand).range() else {
+            return None;
+        };
+        if operand.fits_within(type_range(to)) {
+            return None;
+        }
+        Some(Why::Conversion { to, operand })
     }
-}
 
-/// Where the operands lie at which a chain of more than two fails: what the operands before one have come to, and that
-/// one.
-fn failing_ranges(
-    scope: &Scope,
-    operator: ArithmeticChain,
-    operands: ChainOperands,
-) -> Option<Ranges> {
-    let mut ranges = ranges_of(scope, operands.first, operands.second)?;
-    for other in operands.others {
-        match (joined(operator, ranges), read_operand(scope, other).range()) {
-            (Some(left), Ok(right)) => ranges = Ranges { left, right },
-            _ => return Some(ranges),
+    /// Where two operands lie, if both have a range.
+    fn ranges_of(self, left: &Operand, right: &Operand) -> Option<Ranges>
+        ensures { IfSome result (λ r.
+            (range_found (bound_of_term (known_at self.entry) (term_of left.now)) ≡ Ok (ends_of r.left))
+            × (range_found (bound_of_term (known_at self.entry) (term_of right.now)) ≡ Ok (ends_of r.right))) }
+    {
+        match (
+            read_operand(self.scope, left).range(),
+            read_operand(self.scope, right).range(),
+        ) {
+            (Ok(left), Ok(right)) => Some(Ranges { left, right }),
+            _ => None,
         }
     }
-    Some(ranges)
-}
 
-/// Where the operands lie at which a chain fails.
-fn chain_ranges(scope: &Scope, operator: ArithmeticChain, operands: ChainOperands) -> Option<Ranges>
-    ensures { IfSome result (λ r. AreJoined (entries_of scope.now) (terms_of operands.entry) r.left r.right) }
-{
-    if operands.others.is_empty() {
-        ranges_of(scope, operands.first, operands.second)
-    } else {
-        failing_ranges(scope, operator, operands)
+    /// Where the operands lie at which a chain fails: of more than two, what the operands before one have come to, and
+    /// that one.
+    #[tactic(auto, using(crate::proofs::Causes::joined_first))]
+    fn chain_ranges(
+        self,
+        operator: ArithmeticChain,
+        first: &Operand,
+        second: &Operand,
+        others: &[Operand],
+    ) -> Option<Ranges>
+        ensures { IfSome result (λ r. AreJoined (known_at self.entry)
+            (with_others (Two (term_of first.now) (term_of second.now)) (map term_of others.now)) r.left r.right) }
+    {
+        let mut ranges = self.ranges_of(first, second)?;
+        for other in others {
+            match (
+                joined(operator, ranges),
+                read_operand(self.scope, other).range(),
+            ) {
+                (Some(left), Ok(right)) => ranges = Ranges { left, right },
+                _ => return Some(ranges),
+            }
+        }
+        Some(ranges)
     }
-}
 
-/// Why a chain fails, which is this expression.
-#[tactic(auto, using(crate::proofs::Causes::operators_fail))]
-pub(crate) fn chain_fails<'a>(
-    scope: &Scope,
-    expr: &Expr,
-    operator: ChainOperator,
-    operands: ChainOperands,
-) -> Option<Why<'a>>
-    requires { expression_of expr.now ≡ Chained operator (terms_of operands) }
-    ensures { IfSome result (Breaks (entries_of scope.now) (written (expression_of expr.now))) }
-{
-    let ChainOperator::Arithmetic(operator) = operator else {
-        return None;
-    };
-    let ranges = chain_ranges(scope, operator, operands)?;
-    match read(scope, expr).range() {
-        Err(number) if number == OUT_OF_RANGE => Some(failing(
-            Operator::Chain(operator),
-            ranges.left,
-            ranges.right,
-        )),
-        _ => None,
+    /// The operator of an expression that may fail, and where its operands lie.
+    fn operands(self, expr: &Expr) -> Option<(Operator, Ranges)>
+        ensures { IfSome result (λ found.
+            AreOperands (known_at self.entry) (expression_of expr.now) found.1.left found.1.right) }
+    {
+        match &*expr.operation {
+            Operation::Prefix { operand, .. } => {
+                let Ok(right) = read_operand(self.scope, operand).range() else {
+                    return None;
+                };
+                let left = Range::constant(0);
+                Some((Operator::Negate, Ranges { left, right }))
+            }
+            Operation::Pair {
+                operator: PairOperator::Arithmetic(operator),
+                left,
+                right,
+            } => Some((Operator::Pair(*operator), self.ranges_of(left, right)?)),
+            Operation::Chain {
+                operator: ChainOperator::Arithmetic(operator),
+                first,
+                second,
+                others,
+            } => {
+                let ranges = self.chain_ranges(*operator, first, second, others)?;
+                Some((Operator::Chain(*operator), ranges))
+            }
+            _ => None,
+        }
+    }
+
+    /// Why the operator of an expression fails.
+    #[tactic(auto, using(crate::proofs::Causes::operators_fail))]
+    pub(crate) fn operator_fails(self, expr: &Expr) -> Option<Why<'a>>
+        ensures { IfSome result (Breaks (known_at self.entry) (written (expression_of expr.now))) }
+    {
+        let (operator, ranges) = self.operands(expr)?;
+        match read(self.scope, expr).range() {
+            Err(number) if number == OUT_OF_RANGE => Some(failing(operator, ranges)),
+            _ => None,
+        }
     }
 }

@@ -1,28 +1,28 @@
 //! What two components of a `PAR` share, and on which lines.
 
-ghost use Rattle.std.specs.Prelude.{◌≡◌, IfSome, true};
-ghost use Rattle.usage_reasons.specs.AtFault.{is_left_out, IsAtFault};
+ghost use Rattle.std.specs.Prelude.{IfSome};
+ghost use Rattle.usage_reasons.specs.AtFault.{IsAtFault};
 
-use crate::cause::Cause;
+use crate::cause::{Found, meant};
 use crate::known::Names;
-use crate::reason::{Deed, Tokens, Why};
+use crate::reason::{Deed, Why};
 use crate::walk::Walk;
 use occam_parser::{
     Action, Body, Branch, Choice, Construct, Expr, Guard, Place, Process, Replicator,
 };
 use program_sizes::GREATEST_SIZE;
 use program_uses::{
-    Around, Direction, End, Parameter, Passing, SHARED_VARIABLE, Signature, Use, Uses, add_name,
-    add_outlines, array_at, index_meaning, is_sequence, parameter_at, passing_of, place_in,
-    place_ref, spot_of, turns_of,
+    Around, CHANNEL_USE, Direction, End, Parameter, SHARED_VARIABLE, Spot, Use, Uses, add_outlines,
+    index_meaning, is_sequence, parameter_at, place_ref, spot_of, turns_of,
 };
-use scalar_ranges::{Meaning, Scope};
+use scalar_ranges::Scope;
 use std::alloc::Global;
 use std::collections::BTreeMap;
+use usage_checks::{Handed, handed_by};
 
 /// A line of a component of a `PAR`.
 #[derive(Clone, Copy)]
-struct Site {
+struct Seen {
     component: u32,
     line: u32,
 }
@@ -38,13 +38,15 @@ struct Shared {
 
 /// What the components of a `PAR` use, as far as they were gone over.
 #[derive(Drop)]
-struct Sharing {
+pub(crate) struct Sharing {
+    /// Whether variables are asked after, and not ends of channels.
+    is_of_variables: bool,
     /// How many names there are around the `PAR`.
     count: usize,
     /// The number of the component that is gone over.
     component: u32,
     /// The first line on which something is used.
-    seen: BTreeMap<Use, Site>,
+    seen: BTreeMap<Use, Seen>,
     /// How many turns of replicators are gone over at most: as many as `check` goes over.
     turns_left: u32,
     found: Option<Shared>,
@@ -53,9 +55,10 @@ struct Sharing {
 }
 
 impl Sharing {
-    /// Nothing is used yet, where a scope has this many names.
-    fn new(alloc: Global, count: usize) -> Sharing {
+    /// Nothing is used yet, where a scope has this many names and the rule with this number is broken.
+    pub(crate) fn new(alloc: Global, number: u8, count: usize) -> Sharing {
         Sharing {
+            is_of_variables: number == SHARED_VARIABLE,
             count,
             component: 0,
             seen: BTreeMap::new(alloc),
@@ -70,25 +73,25 @@ impl Sharing {
         self.component = self.component.saturating_add(1);
     }
 
-    /// The line of another component that uses this, if there is one.
-    fn other_line(&self, item: Use) -> Option<u32> {
-        match self.seen.get(&item) {
-            Some(site) if site.component != self.component => Some(site.line),
-            _ => None,
-        }
+    /// How many turns are gone over of this many.
+    fn turns(&mut self, count: u32) -> u32 {
+        let turns = count.min(self.turns_left.max(1));
+        self.turns_left = self.turns_left.saturating_sub(turns);
+        turns
     }
 
     /// Two uses by different components, if the first one was seen.
     fn meet(&mut self, first: Use, second: Use, line: u32) {
-        if let Some(first_line) = self.other_line(first) {
-            if self.found.is_none() {
+        match self.seen.get(&first) {
+            Some(seen) if seen.component != self.component && self.found.is_none() => {
                 self.found = Some(Shared {
                     first,
-                    first_line,
+                    first_line: seen.line,
                     second,
                     second_line: line,
                 });
             }
+            _ => {}
         }
     }
 
@@ -97,51 +100,39 @@ impl Sharing {
         match item {
             Use::Read(number) => self.meet(Use::Change(number), item, line),
             Use::Change(number) => {
-                self.meet(Use::Change(number), item, line);
+                self.meet(item, item, line);
                 self.meet(Use::Read(number), item, line);
             }
             Use::Channel { .. } => self.meet(item, item, line),
         }
-        if self.seen.contains_key(&item) {
-            return;
-        }
         let component = self.component;
-        if self.seen.insert(item, Site { component, line }).is_err() {
-            self.complete = false;
+        if !self.seen.contains_key(&item) {
+            let listed = self.seen.insert(item, Seen { component, line }).is_ok();
+            self.complete = self.complete && listed;
         }
     }
 
-    /// This end of a channel is used on a line.
-    fn add_end(&mut self, channel: usize, end: End, line: u32) {
-        if channel < self.count {
+    /// These ends of a channel are used on a line, of one element or of all.
+    fn add_ends(&mut self, channel: usize, element: Option<u32>, ends: &[End], line: u32) {
+        if self.is_of_variables || channel >= self.count {
+            return;
+        }
+        for end in ends {
             let item = Use::Channel {
                 channel,
-                element: end.element,
+                element: element.unwrap_or(end.element),
                 direction: end.direction,
             };
             self.add(item, line);
         }
     }
 
-    /// These ends of a channel are used on a line, of one element or of all.
-    fn add_ends(&mut self, channel: usize, element: Option<u32>, ends: &[End], line: u32) {
-        for end in ends {
-            let end = End {
-                element: element.unwrap_or(end.element),
-                direction: end.direction,
-            };
-            self.add_end(channel, end, line);
-        }
-    }
-
     /// The variables among some uses are used on a line.
-    fn add_uses(&mut self, line: u32, used: &Uses) {
+    fn add_uses(&mut self, used: &Uses, line: u32) {
+        if !self.is_of_variables {
+            return;
+        }
         self.complete = self.complete && used.is_complete();
-        self.add_variables(used, line);
-    }
-
-    /// These variables are used on a line.
-    fn add_variables(&mut self, used: &Uses, line: u32) {
         for number in 0..self.count {
             if used.contains(Use::Change(number)) {
                 self.add(Use::Change(number), line);
@@ -152,11 +143,22 @@ impl Sharing {
         }
     }
 
-    /// How many turns are gone over of this many.
-    fn turns(&mut self, count: u32) -> u32 {
-        let turns = count.min(self.turns_left.max(1));
-        self.turns_left = self.turns_left.saturating_sub(turns);
-        turns
+    /// The end of a channel that is received from, or sent to.
+    fn add_place(&mut self, scope: &Scope, channel: &Place, direction: Direction, line: u32) {
+        if let Some(Spot { channel, element }) = spot_of(scope, place_ref(channel)) {
+            self.add_ends(channel, None, &[End { element, direction }], line);
+        }
+    }
+
+    /// The ends of channels that a procedure uses of an actual.
+    fn add_actual(&mut self, scope: &Scope, parameter: &Parameter, actual: &Expr, line: u32) {
+        match handed_by(scope, Some(parameter), actual) {
+            Handed::Nothing | Handed::Values(_) => {}
+            Handed::Whole(channel) => self.add_ends(channel, None, &parameter.ends, line),
+            Handed::Element(Spot { channel, element }) => {
+                self.add_ends(channel, Some(element), &parameter.ends, line);
+            }
+        }
     }
 }
 
@@ -168,317 +170,187 @@ fn deed_of(item: Use) -> Deed {
     }
 }
 
-/// Why components share what they may not share.
-fn why_shared<'a>(names: Names<'_, 'a>, shared: Shared) -> Option<Why<'a>>
-    ensures { IfSome result (λ w. is_left_out w ≡ true) }
+/// What components of a `PAR` share, whose first token is meant.
+#[tactic(auto, using(crate::specs::AtFault::left_out))]
+fn cause_of<'a>(names: Names<'_, 'a>, shared: Option<Shared>) -> Found<'a>
+    ensures { IfSome result IsAtFault }
 {
+    let shared = shared?;
     match shared.second {
-        Use::Read(number) | Use::Change(number) => Some(Why::SharedVariable {
-            variable: names.declared(number)?,
-            first: shared.first_line,
-            first_deed: deed_of(shared.first),
-            second: shared.second_line,
-            second_deed: deed_of(shared.second),
-        }),
+        Use::Read(number) | Use::Change(number) => {
+            let why = Why::SharedVariable {
+                variable: names.declared(number)?,
+                first: shared.first_line,
+                first_deed: deed_of(shared.first),
+                second: shared.second_line,
+                second_deed: deed_of(shared.second),
+            };
+            Some(meant(0, 1, why))
+        }
         Use::Channel {
             channel,
             element,
             direction,
-        } => Some(Why::SharedChannel {
-            channel: names.declared(channel)?,
-            element,
-            direction,
-            first: shared.first_line,
-            second: shared.second_line,
-        }),
+        } => {
+            let why = Why::SharedChannel {
+                channel: names.declared(channel)?,
+                element,
+                direction,
+                first: shared.first_line,
+                second: shared.second_line,
+            };
+            Some(meant(0, 1, why))
+        }
     }
-}
-
-/// What components of a `PAR` share, whose first token is meant.
-#[tactic(auto, using(crate::specs::AtFault::left_out))]
-fn cause_of<'a>(names: Names<'_, 'a>, shared: Option<Shared>) -> Option<Cause<'a>>
-    ensures { IfSome result IsAtFault }
-{
-    let why = why_shared(names, shared?)?;
-    let tokens = Tokens { at: 0, len: 1 };
-    Some(Cause { tokens, why })
 }
 
 impl<'a> Walk<'_, 'a> {
     /// What was found to be shared by components of the `PAR` on the line at fault.
-    fn explain_shared(&mut self, sharing: &Sharing) {
-        self.complete = self.complete && sharing.complete;
-        let cause = cause_of(self.names(), sharing.found);
+    fn explain_shared(&mut self) {
+        self.complete = self.complete && self.sharing.complete;
+        let cause = cause_of(self.names(), self.sharing.found);
         self.explain(cause);
     }
 
     /// What the components of the `PAR` on the line at fault share.
     pub(crate) fn explain_par(&mut self, processes: &[Process<'a>]) {
-        let mut sharing = Sharing::new(self.alloc, self.scope.len());
-        let search = Search {
-            alloc: self.alloc,
-            signatures: &self.signatures,
-            number: self.fault.number,
-        };
-        search.components(&mut self.scope, &mut sharing, processes);
-        self.explain_shared(&sharing);
+        self.sharing = Sharing::new(self.alloc, self.fault.number, self.scope.len());
+        for process in processes {
+            self.share(process);
+            self.sharing.next();
+        }
+        self.explain_shared();
     }
 
     /// What the turns of the `PAR` under a replicator share, which is on the line at fault.
     pub(crate) fn explain_turns(&mut self, replicator: &Replicator<'a>, body: &Body<'a>) {
-        let Body::Par(process) = body else { return };
-        let mut sharing = Sharing::new(self.alloc, self.scope.len());
-        let search = Search {
-            alloc: self.alloc,
-            signatures: &self.signatures,
-            number: self.fault.number,
-        };
-        search.turns(&mut self.scope, &mut sharing, replicator, process);
-        self.explain_shared(&sharing);
-    }
-}
-
-/// What the search for shared uses knows besides the names.
-#[derive(Clone, Copy)]
-struct Search<'s> {
-    alloc: Global,
-    signatures: &'s [Signature],
-    /// The number of the rule that is broken.
-    number: u8,
-}
-
-/// A name more, whose declaration says this.
-fn add<'a>(scope: &mut Scope<'a>, sharing: &mut Sharing, name: &'a [u8], meaning: Meaning) {
-    let added = add_name(scope, name, meaning).is_ok();
-    sharing.complete = sharing.complete && added;
-}
-
-impl<'s> Search<'s> {
-    /// What components use.
-    fn components<'a>(
-        self,
-        scope: &mut Scope<'a>,
-        sharing: &mut Sharing,
-        processes: &[Process<'a>],
-    ) {
-        for process in processes {
-            self.process(scope, sharing, process);
-            sharing.next();
-        }
-    }
-
-    /// What a component under a replicator uses in each turn.
-    fn turns<'a>(
-        self,
-        scope: &mut Scope<'a>,
-        sharing: &mut Sharing,
-        replicator: &Replicator<'a>,
-        process: &Process<'a>,
-    ) {
-        let turns = turns_of(true, scope, false, replicator);
-        let count = scope.len();
-        for turn in 0..sharing.turns(turns.count) {
-            let meaning = index_meaning(false, turns.index_at(turn));
-            add(scope, sharing, replicator.name, meaning);
-            self.process(scope, sharing, process);
-            scope.leave(count);
-            sharing.next();
+        let number = self.fault.number;
+        match body {
+            Body::Par(_) if number == SHARED_VARIABLE || number == CHANNEL_USE => {
+                self.sharing = Sharing::new(self.alloc, self.fault.number, self.scope.len());
+                self.share_turns(replicator, body, true);
+                self.explain_shared();
+            }
+            _ => {}
         }
     }
 
     /// What a process uses.
     #[cycle(share)]
-    fn process<'a>(self, scope: &mut Scope<'a>, sharing: &mut Sharing, process: &Process<'a>) {
-        if sharing.found.is_some() {
+    fn share(&mut self, process: &Process<'a>) {
+        if self.sharing.found.is_some() {
             return;
         }
-        let count = scope.len();
-        let added = add_outlines(scope, &process.declarations).is_ok();
-        sharing.complete = sharing.complete && added;
-        self.construct(scope, sharing, process.line, &process.construct);
-        scope.leave(count);
+        let count = self.scope.len();
+        let added = add_outlines(&mut self.scope, &process.declarations).is_ok();
+        self.complete = self.complete && added;
+        self.share_construct(process.line, &process.construct);
+        self.scope.leave(count);
     }
 
     /// What a construct uses that begins on this line.
     #[cycle(share)]
-    fn construct<'a>(
-        self,
-        scope: &mut Scope<'a>,
-        sharing: &mut Sharing,
-        line: u32,
-        construct: &Construct<'a>,
-    ) {
+    fn share_construct(&mut self, line: u32, construct: &Construct<'a>) {
         match construct {
-            Construct::Action(action) => self.action(scope, sharing, line, action),
+            Construct::Action(action) => self.share_action(line, action),
             Construct::Seq(processes) | Construct::Par(processes) => {
                 for process in processes {
-                    self.process(scope, sharing, process);
+                    self.share(process);
                 }
             }
             Construct::If(choices) => {
                 for choice in choices {
-                    self.choice(scope, sharing, choice);
+                    self.share_choice(choice);
                 }
             }
             Construct::Alt(branches) => {
                 for branch in branches {
-                    self.branch(scope, sharing, branch);
+                    self.share_branch(branch);
                 }
             }
             Construct::Replicated { replicator, body } => {
-                self.repeated(scope, sharing, replicator, body);
+                self.share_turns(replicator, body, false);
             }
         }
     }
 
-    /// What the turns of a body use.
+    /// What the turns of a body use, each as a component of its own or not.
     #[cycle(share)]
-    fn repeated<'a>(
-        self,
-        scope: &mut Scope<'a>,
-        sharing: &mut Sharing,
-        replicator: &Replicator<'a>,
-        body: &Body<'a>,
-    ) {
+    fn share_turns(&mut self, replicator: &Replicator<'a>, body: &Body<'a>, apart: bool) {
         let sequential = is_sequence(body);
-        let turns = turns_of(true, scope, sequential, replicator);
-        let count = scope.len();
-        for turn in 0..sharing.turns(turns.count) {
+        let turns = turns_of(true, &self.scope, sequential, replicator);
+        let count = self.scope.len();
+        for turn in 0..self.sharing.turns(turns.count) {
             let meaning = index_meaning(sequential, turns.index_at(turn));
-            add(scope, sharing, replicator.name, meaning);
-            self.body(scope, sharing, body);
-            scope.leave(count);
+            // Of what is declared in the `PAR` no line is told.
+            self.declare(0, replicator.name, meaning);
+            self.share_body(body);
+            self.scope.leave(count);
+            if apart {
+                self.sharing.next();
+            }
         }
     }
 
     /// What a body uses in one turn.
     #[cycle(share)]
-    fn body<'a>(self, scope: &mut Scope<'a>, sharing: &mut Sharing, body: &Body<'a>) {
+    fn share_body(&mut self, body: &Body<'a>) {
         match body {
-            Body::Seq(process) | Body::Par(process) => self.process(scope, sharing, process),
-            Body::If(choice) => self.choice(scope, sharing, choice),
-            Body::Alt(branch) => self.branch(scope, sharing, branch),
+            Body::Seq(process) | Body::Par(process) => self.share(process),
+            Body::If(choice) => self.share_choice(choice),
+            Body::Alt(branch) => self.share_branch(branch),
         }
     }
 
     /// What a choice of an `IF` uses.
     #[cycle(share)]
-    fn choice<'a>(self, scope: &mut Scope<'a>, sharing: &mut Sharing, choice: &Choice<'a>) {
-        self.condition(scope, sharing, choice.line, &choice.condition);
-        self.process(scope, sharing, &choice.process);
+    fn share_choice(&mut self, choice: &Choice<'a>) {
+        let mut used = Uses::new(self.alloc);
+        used.read(&self.scope, &choice.condition);
+        self.sharing.add_uses(&used, choice.line);
+        self.share(&choice.process);
     }
 
     /// What a branch of an `ALT` uses.
     #[cycle(share)]
-    fn branch<'a>(self, scope: &mut Scope<'a>, sharing: &mut Sharing, branch: &Branch<'a>) {
-        self.guard(scope, sharing, branch.line, &branch.guard);
-        self.process(scope, sharing, &branch.process);
-    }
-
-    /// What a condition uses.
-    fn condition(self, scope: &Scope, sharing: &mut Sharing, line: u32, condition: &Expr) {
-        if self.number == SHARED_VARIABLE {
-            let mut used = Uses::new(self.alloc);
-            used.read(scope, condition);
-            sharing.add_uses(line, &used);
+    fn share_branch(&mut self, branch: &Branch<'a>) {
+        let mut used = Uses::new(self.alloc);
+        used.guard(&self.scope, &branch.guard);
+        self.sharing.add_uses(&used, branch.line);
+        if let Guard::Input { channel, .. } = &branch.guard {
+            self.sharing
+                .add_place(&self.scope, channel, Direction::Input, branch.line);
         }
-    }
-
-    /// What a guard uses.
-    fn guard(self, scope: &Scope, sharing: &mut Sharing, line: u32, guard: &Guard) {
-        if self.number == SHARED_VARIABLE {
-            let mut used = Uses::new(self.alloc);
-            used.guard(scope, guard);
-            sharing.add_uses(line, &used);
-        } else if let Guard::Input { channel, .. } = guard {
-            add_place(scope, sharing, line, channel, Direction::Input);
-        }
+        self.share(&branch.process);
     }
 
     /// What an action uses.
-    fn action(self, scope: &Scope, sharing: &mut Sharing, line: u32, action: &Action) {
-        if self.number == SHARED_VARIABLE {
-            let around = Around {
-                signatures: self.signatures,
-                uncounted: None,
-            };
-            let mut used = Uses::new(self.alloc);
-            used.act(around, scope, line, action);
-            sharing.add_uses(line, &used);
-        } else {
-            self.ends(scope, sharing, line, action);
-        }
-    }
-
-    /// The ends of channels that an action uses.
-    fn ends(self, scope: &Scope, sharing: &mut Sharing, line: u32, action: &Action) {
+    fn share_action(&mut self, line: u32, action: &Action) {
+        let around = Around {
+            signatures: &self.signatures,
+            uncounted: None,
+        };
+        let mut used = Uses::new(self.alloc);
+        used.act(around, &self.scope, line, action);
+        self.sharing.add_uses(&used, line);
         match action {
             Action::Skip | Action::Stop | Action::Assign { .. } => {}
             Action::Input { channel, .. } => {
-                add_place(scope, sharing, line, channel, Direction::Input);
+                self.sharing
+                    .add_place(&self.scope, channel, Direction::Input, line);
             }
             Action::Output { channel, .. } => {
-                add_place(scope, sharing, line, channel, Direction::Output);
+                self.sharing
+                    .add_place(&self.scope, channel, Direction::Output, line);
             }
             Action::Instance { name, actuals } => {
-                self.actuals(scope, sharing, line, name, actuals);
-            }
-        }
-    }
-
-    /// The ends of channels that a procedure uses of its actuals.
-    fn actuals(
-        self,
-        scope: &Scope,
-        sharing: &mut Sharing,
-        line: u32,
-        name: &[u8],
-        actuals: &[Expr],
-    ) {
-        let procedure = scope.meaning(name);
-        for (place, actual) in actuals.iter().enumerate() {
-            if let Some(parameter) = parameter_at(self.signatures, procedure, place) {
-                add_actual(scope, sharing, line, parameter, actual);
-            }
-        }
-    }
-}
-
-/// The end of a channel that is received from, or sent to.
-fn add_place(
-    scope: &Scope,
-    sharing: &mut Sharing,
-    line: u32,
-    channel: &Place,
-    direction: Direction,
-) {
-    if let Some(spot) = spot_of(scope, place_ref(channel)) {
-        let element = spot.element;
-        sharing.add_end(spot.channel, End { element, direction }, line);
-    }
-}
-
-/// The ends of channels that a procedure uses of an actual.
-fn add_actual(
-    scope: &Scope,
-    sharing: &mut Sharing,
-    line: u32,
-    parameter: &Parameter,
-    actual: &Expr,
-) {
-    let Some(place) = place_in(actual) else {
-        return
-    };
-    match passing_of(parameter.meaning) {
-        Passing::Value | Passing::Variable => {}
-        Passing::Channel => {
-            if let Some(spot) = spot_of(scope, place) {
-                sharing.add_ends(spot.channel, Some(spot.element), &parameter.ends, line);
-            }
-        }
-        Passing::Channels => {
-            if let Some(channel) = array_at(scope, place) {
-                sharing.add_ends(channel, None, &parameter.ends, line);
+                let procedure = self.scope.meaning(name);
+                for (place, actual) in actuals.iter().enumerate() {
+                    if let Some(parameter) = parameter_at(&self.signatures, procedure, place) {
+                        self.sharing
+                            .add_actual(&self.scope, parameter, actual, line);
+                    }
+                }
             }
         }
     }

@@ -1,27 +1,19 @@
 //! The walk over a program once more, as far as the line at fault.
 
-ghost use Rattle.std.specs.Prelude.{◌≡◌, true, Some, IfOk, IfSome};
+ghost use Rattle.std.specs.Prelude.{◌≡◌, Some, IfSome};
 ghost use Rattle.usage_reasons.specs.AtFault.{IsAtFault};
 ghost use Rattle.usage_reasons.specs.Reasons.{IsReasonOf};
 
-use crate::cause::Cause;
+use crate::cause::{Found, rule_of};
 use crate::known::Names;
 use crate::reason::{Reason, Tokens};
+use crate::sharing::Sharing;
 use crate::site::{Part, Site};
 use occam_layout::Token;
 use program_uses::{DECLARED_TWICE, Signature, UsageFault};
 use scalar_ranges::{Entry, Meaning, Scope};
-use std::alloc::{AllocError, Global};
+use std::alloc::Global;
 use usage_checks::Position;
-
-/// Whether a reason is of this fault, and its tokens are among this many.
-fn is_reason_of(count: usize, fault: UsageFault, reason: &Reason) -> bool
-    ensures { result ≡ true → IsReasonOf count fault reason.now }
-{
-    let Tokens { at, len } = reason.tokens;
-    let is_of = reason.line == fault.line && reason.why.number() == fault.number;
-    is_of && at <= count && len <= count - at
-}
 
 /// A reason, if it is of this fault, and its tokens are among this many.
 pub(crate) fn tested<'a>(
@@ -33,7 +25,11 @@ pub(crate) fn tested<'a>(
     ensures same { IfSome result (λ r. reason.entry ≡ Some r) }
 {
     let reason = reason?;
-    if is_reason_of(count, fault, &reason) {
+    if reason.line != fault.line || reason.why.number() != fault.number {
+        return None;
+    }
+    let Tokens { at, len } = reason.tokens;
+    if at <= count && len <= count - at {
         Some(reason)
     } else {
         None
@@ -54,6 +50,8 @@ pub(crate) struct Walk<'l, 'a> {
     pub(crate) position: Position,
     /// Whether a block around is gone over once for each index.
     pub(crate) is_repeated: bool,
+    /// What components of the `PAR` at fault use.
+    pub(crate) sharing: Sharing,
     pub(crate) reason: Option<Reason<'a>>,
     /// Whether memory was enough.
     pub(crate) complete: bool,
@@ -76,23 +74,9 @@ impl<'l, 'a> Walk<'l, 'a> {
                 is_main: false,
             },
             is_repeated: false,
+            sharing: Sharing::new(alloc, fault.number, 0),
             reason: None,
             complete: true,
-        }
-    }
-
-    /// The reason that was found, if memory was enough: one of this fault, on a line with this many tokens.
-    pub(crate) fn finish(
-        self,
-        count: usize,
-        fault: UsageFault,
-    ) -> Result<Option<Reason<'a>>, AllocError>
-        ensures { IfOk result (λ found. IfSome found (IsReasonOf count fault)) }
-    {
-        if self.complete {
-            Ok(tested(count, fault, self.reason))
-        } else {
-            Err(AllocError)
         }
     }
 
@@ -115,14 +99,14 @@ impl<'l, 'a> Walk<'l, 'a> {
             scope: &self.scope,
             signatures: &self.signatures,
             position: self.position,
-            number: self.fault.number,
+            rule: rule_of(self.fault.number),
             len: self.tokens.len(),
             is_repeated: self.is_repeated,
         }
     }
 
     /// The reason that a cause is, with what is known here.
-    pub(crate) fn explain(&mut self, cause: Option<Cause<'a>>)
+    pub(crate) fn explain(&mut self, cause: Found<'a>)
         requires { IfSome cause IsAtFault }
     {
         let Some(cause) = cause else { return };

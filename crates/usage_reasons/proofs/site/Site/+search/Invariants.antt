@@ -2,7 +2,7 @@ use Rattle.std.proofs.Common.{◌≡◌, ◌+◌, length, map, take}
 use Rattle.occam_parser.specs.Views.{term_of}
 use Rattle.usage_reasons.specs.Tokens.{capped}
 use Rattle.usage_reasons.specs.Chains.{written_others}
-use Rattle.usage_reasons.proofs.expressions.+search.Given as goal
+use Rattle.usage_reasons.proofs.site.Site.+search.Given as goal
 
 -- how far the loop has come in the tokens
 abbrev pub invariant-in_others-loop-other : goal.invariant-in_others-loop-other
