@@ -26,17 +26,26 @@ struct Listing<'s, 'a> {
 
 /// The first line of a text, and what follows the line feed that ends it.
 fn first_line(text: &[u8]) -> (&[u8], &[u8]) {
-    let len = text.iter().take_while(|b| **b != b'\n').count();
-    let (line, rest) = text.split_at(len.min(text.len()));
-    let (_, after) = rest.split_at(rest.len().min(1));
-    (line, after)
+    for (len, byte) in text.iter().enumerate() {
+        if *byte == b'\n' {
+            let (line, _) = text.split_at(len);
+            let (_, after) = text.split_at(len + 1);
+            return (line, after);
+        }
+    }
+    (text, b"")
 }
 
 /// The lines of tokens from one on.
 fn lines_from<'s, 'a>(lines: &'s [Line<'a>], line: u32) -> &'s [Line<'a>] {
-    let before = lines.iter().take_while(|l| l.number < line).count();
-    let (_, rest) = lines.split_at(before.min(lines.len()));
-    rest
+    for (before, found) in lines.iter().enumerate() {
+        if found.number >= line {
+            let (_, rest) = lines.split_at(before);
+            return rest;
+        }
+    }
+    let (_, none) = lines.split_at(lines.len());
+    none
 }
 
 impl Listing<'_, '_> {

@@ -9,6 +9,13 @@ use machine::{Checked, Stop};
 use machine_state::{Effect, Event, Link};
 use std::alloc::Global;
 
+/// How a module is run: when processes give way, and what is on its links.
+#[derive(Clone, Copy)]
+struct Terms<'g> {
+    schedule: Schedule,
+    given: &'g Given,
+}
+
 /// What came of a step.
 enum Turn {
     Ran,
@@ -44,16 +51,11 @@ fn answer(
 }
 
 /// The processes run until none is running.
-fn go_on(
-    machine: &mut Checked,
-    schedule: Schedule,
-    given: &Given,
-    course: &mut Course,
-) -> Result<(), Stop> {
+fn go_on(machine: &mut Checked, terms: Terms, course: &mut Course) -> Result<(), Stop> {
     for _ in 0..u64::MAX {
-        match take_turn(machine, schedule, course)? {
+        match take_turn(machine, terms.schedule, course)? {
             Turn::Ran => {}
-            Turn::Sent { link } => answer(machine, link, given, course)?,
+            Turn::Sent { link } => answer(machine, link, terms.given, course)?,
             Turn::Idle => break,
         }
     }
@@ -73,15 +75,10 @@ fn awaited(machine: &Checked, given: &Given, course: &Course) -> Option<(Link, u
 }
 
 /// A run of a machine that is loaded.
-fn drive(
-    machine: &mut Checked,
-    schedule: Schedule,
-    given: &Given,
-    course: &mut Course,
-) -> Result<(), Stop> {
+fn drive(machine: &mut Checked, terms: Terms, course: &mut Course) -> Result<(), Stop> {
     for _ in 0..u64::MAX {
-        go_on(machine, schedule, given, course)?;
-        let Some((link, byte)) = awaited(machine, given, course) else {
+        go_on(machine, terms, course)?;
+        let Some((link, byte)) = awaited(machine, terms.given, course) else {
             break;
         };
         course.count(link);
@@ -91,25 +88,19 @@ fn drive(
 }
 
 /// A run of a machine that is loaded, and what came of it.
-fn put_run(
-    machine: &mut Checked,
-    schedule: Schedule,
-    given: &Given,
-    course: &mut Course,
-    out: &mut Answer,
-) {
-    match drive(machine, schedule, given, course) {
-        Ok(()) => course.put(machine, given, out),
+fn put_run(machine: &mut Checked, terms: Terms, course: &mut Course, out: &mut Answer) {
+    match drive(machine, terms, course) {
+        Ok(()) => course.put(machine, terms.given, out),
         Err(Stop::Fault(fault)) => out.fault("F", fault.number, u64::from(fault.offset)),
         Err(Stop::Memory) => out.fail(),
     }
 }
 
-/// What comes of a module under a schedule.
-fn run(alloc: Global, module: &Module, schedule: Schedule, given: &Given, out: &mut Answer) {
+/// What comes of a module that is run so.
+fn run(alloc: Global, module: &Module, terms: Terms, out: &mut Answer) {
     let mut course = Course::new(alloc);
     match Checked::load(alloc, module) {
-        Ok(mut machine) => put_run(&mut machine, schedule, given, &mut course, out),
+        Ok(mut machine) => put_run(&mut machine, terms, &mut course, out),
         Err(_) => out.fail(),
     }
 }
@@ -123,8 +114,12 @@ pub(crate) fn judge_runs(
     out: &mut Answer,
 ) -> Outcome {
     for schedule in &SCHEDULES {
+        let terms = Terms {
+            schedule: *schedule,
+            given,
+        };
         out.clear();
-        run(alloc, module, *schedule, given, out);
+        run(alloc, module, terms, out);
         if out.as_str() != expected {
             out.put(", ");
             out.put(schedule.name());

@@ -12,6 +12,8 @@ const SIGN: u8 = b'\\';
 pub(crate) struct Source {
     alloc: Global,
     text: Vec<u8>,
+    /// How many lines end in the text.
+    lines: usize,
 }
 
 /// The number with which a text begins, and what follows it.
@@ -51,6 +53,7 @@ impl Source {
         Source {
             alloc,
             text: Vec::new(alloc),
+            lines: 0,
         }
     }
 
@@ -72,14 +75,17 @@ impl Source {
 
     /// Appends a text `times` times.
     fn append(&mut self, times: u32, text: &[u8]) -> Option<()> {
+        let ends = ends_of_lines(text);
         for _ in 0..times {
             self.text.extend_from_slice(text).ok()?;
+            self.lines = self.lines.saturating_add(ends);
         }
         Some(())
     }
 
     fn begin(&mut self, quoted: &str, block: &[&str]) -> Option<()> {
         self.text = text_of(self.alloc, quoted, block)?;
+        self.lines = ends_of_lines(&self.text);
         Some(())
     }
 
@@ -111,7 +117,7 @@ impl Source {
 
     /// Appends a statement that is itself a part of a source, at the line that it has in its file.
     fn append_item(&mut self, statement: Statement) -> Option<()> {
-        for _ in ends_of_lines(&self.text).saturating_add(1)..statement.line {
+        for _ in self.lines.saturating_add(1)..statement.line {
             self.append(1, b"\n")?;
         }
         self.append(1, statement.word.as_bytes())?;

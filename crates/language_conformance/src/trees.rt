@@ -45,11 +45,15 @@ fn write_type(out: &mut Answer, value_type: ValueType) {
     }
 }
 
+fn write_in_brackets(out: &mut Answer, expr: &Expr) {
+    out.put("[");
+    write_expr(out, expr);
+    out.put("]");
+}
+
 fn write_size(out: &mut Answer, size: &Option<Expr>) {
     if let Some(size) = size {
-        out.put("[");
-        write_expr(out, size);
-        out.put("]");
+        write_in_brackets(out, size);
     }
 }
 
@@ -58,9 +62,7 @@ fn write_constant(out: &mut Answer, constant: &Constant) {
     match &constant.value {
         ConstantValue::Scalar(_) => {}
         ConstantValue::Table { size, .. } | ConstantValue::Text { size, .. } => {
-            out.put("[");
-            write_expr(out, size);
-            out.put("]");
+            write_in_brackets(out, size);
         }
     }
     write_type(out, constant.value_type);
@@ -137,26 +139,37 @@ fn write_process(out: &mut Answer, level: u32, process: &Process) {
     write_construct(out, level.saturating_add(1), &process.construct)
 }
 
+/// The line of its own that a construct begins with, if there is one.
+fn head_of(construct: &Construct) -> &'static str {
+    match construct {
+        Construct::Seq(_) => "SEQ\n",
+        Construct::Par(_) => "PAR\n",
+        Construct::If(_) => "IF\n",
+        Construct::Alt(_) => "ALT\n",
+        Construct::Action(_) | Construct::Replicated { .. } => "",
+    }
+}
+
 /// A construct whose components are at a level.
 #[cycle(write_process)]
 fn write_construct(out: &mut Answer, level: u32, construct: &Construct) {
+    out.put(head_of(construct));
     match construct {
         Construct::Action(action) => write_action(out, action),
-        Construct::Seq(components) => {
-            out.put("SEQ\n");
-            write_processes(out, level, components)
-        }
-        Construct::Par(components) => {
-            out.put("PAR\n");
-            write_processes(out, level, components)
+        Construct::Seq(components) | Construct::Par(components) => {
+            for component in components {
+                write_process(out, level, component);
+            }
         }
         Construct::If(choices) => {
-            out.put("IF\n");
-            write_choices(out, level, choices)
+            for choice in choices {
+                write_choice(out, level, choice);
+            }
         }
         Construct::Alt(branches) => {
-            out.put("ALT\n");
-            write_branches(out, level, branches)
+            for branch in branches {
+                write_branch(out, level, branch);
+            }
         }
         Construct::Replicated { replicator, body } => {
             write_replicated(out, level, replicator, body);
@@ -164,39 +177,23 @@ fn write_construct(out: &mut Answer, level: u32, construct: &Construct) {
     }
 }
 
+/// The word that a block under a replicator begins with.
+fn word_of(body: &Body) -> &'static str {
+    match body {
+        Body::Seq(_) => "SEQ ",
+        Body::Par(_) => "PAR ",
+        Body::If(_) => "IF ",
+        Body::Alt(_) => "ALT ",
+    }
+}
+
 #[cycle(write_process)]
 fn write_replicated(out: &mut Answer, level: u32, replicator: &Replicator, body: &Body) {
+    write_head(out, word_of(body), replicator);
     match body {
-        Body::Seq(process) => {
-            write_head(out, "SEQ ", replicator);
-            write_process(out, level, process);
-        }
-        Body::Par(process) => {
-            write_head(out, "PAR ", replicator);
-            write_process(out, level, process);
-        }
-        Body::If(choice) => {
-            write_head(out, "IF ", replicator);
-            write_choice(out, level, choice);
-        }
-        Body::Alt(branch) => {
-            write_head(out, "ALT ", replicator);
-            write_branch(out, level, branch);
-        }
-    }
-}
-
-#[cycle(write_process)]
-fn write_processes(out: &mut Answer, level: u32, processes: &[Process]) {
-    for process in processes {
-        write_process(out, level, process);
-    }
-}
-
-#[cycle(write_process)]
-fn write_choices(out: &mut Answer, level: u32, choices: &[Choice]) {
-    for choice in choices {
-        write_choice(out, level, choice);
+        Body::Seq(process) | Body::Par(process) => write_process(out, level, process),
+        Body::If(choice) => write_choice(out, level, choice),
+        Body::Alt(branch) => write_branch(out, level, branch),
     }
 }
 
@@ -206,13 +203,6 @@ fn write_choice(out: &mut Answer, level: u32, choice: &Choice) {
     write_expr(out, &choice.condition);
     out.put("\n");
     write_process(out, level.saturating_add(1), &choice.process);
-}
-
-#[cycle(write_process)]
-fn write_branches(out: &mut Answer, level: u32, branches: &[Branch]) {
-    for branch in branches {
-        write_branch(out, level, branch);
-    }
 }
 
 #[cycle(write_process)]
@@ -238,25 +228,25 @@ fn write_place(out: &mut Answer, place: &Place) {
     write_size(out, &place.subscript)
 }
 
+fn write_value(out: &mut Answer, place: &Place, sign: &str, value: &Expr) {
+    write_place(out, place);
+    out.put(sign);
+    write_expr(out, value);
+}
+
+fn write_input(out: &mut Answer, channel: &Place, target: &Place) {
+    write_place(out, channel);
+    out.put(" ? ");
+    write_place(out, target);
+}
+
 fn write_action(out: &mut Answer, action: &Action) {
     match action {
         Action::Skip => out.put("SKIP"),
         Action::Stop => out.put("STOP"),
-        Action::Assign { target, value } => {
-            write_place(out, target);
-            out.put(" := ");
-            write_expr(out, value);
-        }
-        Action::Input { channel, target } => {
-            write_place(out, channel);
-            out.put(" ? ");
-            write_place(out, target);
-        }
-        Action::Output { channel, value } => {
-            write_place(out, channel);
-            out.put(" ! ");
-            write_expr(out, value);
-        }
+        Action::Assign { target, value } => write_value(out, target, " := ", value),
+        Action::Input { channel, target } => write_input(out, channel, target),
+        Action::Output { channel, value } => write_value(out, channel, " ! ", value),
         Action::Instance { name, actuals } => {
             write_name(out, name);
             out.put("(");
@@ -278,9 +268,7 @@ fn write_guard(out: &mut Answer, guard: &Guard) {
                 write_expr(out, condition);
                 out.put(" & ");
             }
-            write_place(out, channel);
-            out.put(" ? ");
-            write_place(out, target);
+            write_input(out, channel, target);
         }
         Guard::Skip { condition } => {
             write_expr(out, condition);

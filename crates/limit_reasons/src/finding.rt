@@ -1,10 +1,12 @@
 //! The first limit that a program is above.
 
 use crate::excess::{Excess, Limit};
-use occam_parser::{Body, ConstantValue, Construct, Declaration, Expr, Item, Names, ValueType};
+use occam_parser::{
+    Action, Body, ConstantValue, Construct, Declaration, Expr, Item, Names, ValueType,
+};
 use program_uses::{size_in, value_as};
 use program_walk::{Part, Visitor, walk_program};
-use scalar_ranges::{ExprType, Scope};
+use scalar_ranges::{ExprType, Meaning, Scope};
 use std::alloc::{AllocError, Global};
 
 /// Words that are held by names as long as a scope has more names than this.
@@ -26,7 +28,10 @@ struct Words {
 struct Counts {
     words: Words,
     items: u64,
-    found: Option<Excess>,
+    /// The first limit that is exceeded by the constants of the program, and then by each procedure with what it calls.
+    found: Vec<Option<Excess>>,
+    /// Which of these is counted.
+    place: usize,
     /// Whether memory sufficed.
     complete: bool,
 }
@@ -58,6 +63,15 @@ fn count_of(scope: &Scope, count: &Expr) -> u64 {
     }
 }
 
+/// The excess on the earlier line.
+fn earlier(first: Option<Excess>, second: Option<Excess>) -> Option<Excess> {
+    match (first, second) {
+        (Some(one), Some(other)) if one.line <= other.line => first,
+        (_, None) => first,
+        _ => second,
+    }
+}
+
 impl Words {
     /// What a scope no longer has that has this many names.
     fn leave(&mut self, names: usize) {
@@ -79,10 +93,25 @@ impl Words {
 }
 
 impl Counts {
-    /// So many of a line, if no limit was exceeded before.
+    /// A limit that is exceeded, if one is: the first one counts.
+    fn add(&mut self, excess: Option<Excess>) {
+        if let Some(found) = self.found.get_mut(self.place) {
+            *found = earlier(*found, excess);
+        }
+    }
+
+    /// So many of a line.
     fn note(&mut self, line: u32, limit: Limit, count: u64) {
-        if self.found.is_none() {
-            self.found = Excess::of(line, limit, count);
+        self.add(Excess::of(line, limit, count));
+    }
+
+    /// An instance of a procedure, which exceeds what the procedure does.
+    fn see_action(&mut self, scope: &Scope, action: &Action) {
+        if let Action::Instance { name, .. } = action {
+            if let Some(Meaning::Proc(number)) = scope.meaning(name) {
+                let called = self.found.get(number as usize + 1).copied();
+                self.add(called.unwrap_or(None));
+            }
         }
     }
 
@@ -95,13 +124,8 @@ impl Counts {
     /// Names that are declared, each with so many words.
     fn see_names(&mut self, scope: &Scope, names: &Names, words: u64) {
         let count = names.names.others.len() as u64 + 1;
-        if self
-            .words
-            .hold(scope.len(), words.saturating_mul(count))
-            .is_err()
-        {
-            self.complete = false;
-        }
+        let words = words.saturating_mul(count);
+        self.complete &= self.words.hold(scope.len(), words).is_ok();
         self.note(names.line, Limit::Words, self.words.all);
     }
 
@@ -121,8 +145,14 @@ impl Counts {
     fn see_item(&mut self, line: u32, item: &Item) {
         self.words.leave(0);
         match item {
-            Item::Constant(constant) => self.see_value(line, &constant.value),
-            Item::Proc(_) => {}
+            Item::Constant(constant) => {
+                self.place = 0;
+                self.see_value(line, &constant.value);
+            }
+            Item::Proc(_) => {
+                self.place = self.found.len();
+                self.complete &= self.found.push(None).is_ok();
+            }
         }
     }
 
@@ -157,13 +187,15 @@ impl Visitor for Counts {
             Part::Item(item) => self.see_item(line, item),
             Part::Declaration(declaration) => self.see_declaration(scope, declaration),
             Part::Construct(construct) => self.see_construct(scope, line, construct),
-            Part::Replicator(_) | Part::Action(_) | Part::Condition(_) | Part::Guard(_) => {}
+            Part::Action(action) => self.see_action(scope, action),
+            Part::Replicator(_) | Part::Condition(_) | Part::Guard(_) => {}
         }
     }
 }
 
-/// The first limit that a program is above, if its source shows one. That a program which is refused for a limit is above
-/// this one is claimed by no contract: the code of an instance is not counted, nor that of a line.
+/// The first limit that a program is above, if its source shows one: its constants do, or `main`, the last procedure, with
+/// what it calls. That a program which is refused for a limit is above this one is claimed by no contract: the code of an
+/// instance is not counted, nor that of a line.
 pub fn limit_excess(alloc: Global, items: &[Item]) -> Result<Option<Excess>, AllocError> {
     let mut counts = Counts {
         words: Words {
@@ -171,13 +203,16 @@ pub fn limit_excess(alloc: Global, items: &[Item]) -> Result<Option<Excess>, All
             all: 0,
         },
         items: 0,
-        found: None,
+        found: Vec::new(alloc),
+        place: 0,
         complete: true,
     };
+    counts.found.push(None)?;
     walk_program(alloc, items, &mut counts)?;
-    if counts.complete {
-        Ok(counts.found)
-    } else {
-        Err(AllocError)
+    if !counts.complete {
+        return Err(AllocError);
     }
+    let constants = counts.found.first().copied().unwrap_or(None);
+    let main = counts.found.last().copied().unwrap_or(None);
+    Ok(earlier(constants, main))
 }

@@ -1,3 +1,4 @@
 pub mod Turns
 pub mod LinesAbove
 pub mod Levels
+pub mod Steps

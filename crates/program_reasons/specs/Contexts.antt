@@ -10,6 +10,8 @@ use Rattle.program_reasons.specs.declared.forms.Form.{Form}
 use Rattle.program_reasons.specs.declared.forms.Form.TheVariants as form
 use Rattle.program_reasons.specs.declared.context.Places.{Places}
 use Rattle.program_reasons.specs.declared.context.Places.TheVariants as places
+use Rattle.program_reasons.specs.declared.context.Sought.{Sought}
+use Rattle.program_reasons.specs.declared.context.Sought.TheVariants as sought
 use Rattle.program_reasons.specs.declared.context.Context.{Context}
 use Rattle.program_reasons.specs.declared.context.Context.TheVariants as context
 
@@ -23,13 +25,18 @@ unfoldable pub last_that : (Row → Bool) → List Row → Option (Row × List R
 last_that wanted [] = None
 last_that wanted (r ∷ rows) = later_or (wanted r) r (last_that wanted rows)
 
+-- a line is looked for: one that is at a level or less deep, or the one with a number
+abbrev pub is_sought : Sought → Row → Bool
+is_sought (sought.UpTo level) = λ r. nat_le r.level level
+is_sought (sought.Number number) = λ r. r.number == number
+
 -- the last line that is at a level or less deep
 abbrev pub last_up_to : ℕ → List Row → Option (Row × List Row)
-last_up_to level rows = last_that (λ r. nat_le r.level level) rows
+last_up_to level rows = last_that (is_sought (sought.UpTo level)) rows
 
 -- the line with a number
 abbrev pub line_numbered : ℕ → List Row → Option (Row × List Row)
-line_numbered number rows = last_that (λ r. r.number == number) rows
+line_numbered number rows = last_that (is_sought (sought.Number number)) rows
 
 -- the mark that a line begins with
 abbrev pub mark_of : List Terminal → Option mark_type.Mark

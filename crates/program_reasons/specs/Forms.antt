@@ -1,5 +1,6 @@
 -- How far a line goes on as one of the forms that lines have.
-use Rattle.std.specs.Prelude.{Bool, true, false, List, [], ◌∷◌, if◌then◌else◌, Option, Some, None, is_some, Result, Ok}
+use Rattle.std.specs.Prelude.{Bool, true, false, List, [], ◌∷◌, if◌then◌else◌, Option, Some, None, is_some}
+use Rattle.std.specs.Prelude.{Result, Ok}
 use Rattle.occam_layout.specs.declared.mark.Mark as mark_type
 use Rattle.occam_layout.specs.declared.mark.Mark.TheVariants as mark
 use Rattle.occam_parser.specs.Terminals.{Terminal, Name, Text, Mark}
@@ -9,6 +10,8 @@ use Rattle.program_reasons.specs.declared.forms.Form.{Form}
 use Rattle.program_reasons.specs.declared.forms.Form.TheVariants as form
 use Rattle.program_reasons.specs.declared.forms.Part as part_type
 use Rattle.program_reasons.specs.declared.forms.Part.TheVariants as part
+use Rattle.program_reasons.specs.declared.forms.Step.{Step}
+use Rattle.program_reasons.specs.declared.forms.Step.TheVariants as step
 use Rattle.program_reasons.specs.declared.stuck.Wanted.TheVariants as wanted
 use Rattle.program_reasons.specs.declared.stuck.Lack.{Lack}
 use Rattle.program_reasons.specs.declared.stuck.Lack.TheVariants.{Token as Wants}
@@ -71,6 +74,27 @@ past_value true (Text bytes ∷ ts) = Ok ts
 past_value true (Mark mark.OpenBracket ∷ ts) = past_list part.Expression ts then past_mark mark.CloseBracket
 past_value true (t ∷ ts) = lacking (Wants wanted.Table) (t ∷ ts)
 
+-- one step
+abbrev pub past_step : Step → Past
+past_step step.Name = past_name
+past_step (step.Mark m) = past_mark m
+past_step step.Type = past_type (Wants wanted.ValueType)
+past_step step.Shape = past_shape
+past_step step.Expression = past_whole
+past_step step.Brackets = past_brackets
+past_step (step.Value is_table) = past_value is_table
+past_step (step.List p) = past_list p
+past_step (step.Parentheses p) = past_parentheses p
+past_step step.End = past_end
+
+-- steps, one after the other, from where a line was found to go on
+abbrev pub past_from : Result (List Terminal) Stuck → List Step → Result (List Terminal) Stuck
+past_from found [] = found
+past_from found (s ∷ steps) = past_from (found then past_step s) steps
+
+abbrev pub past_all : List Step → Past
+past_all steps ts = past_from (Ok ts) steps
+
 -- after the word VAL
 unfoldable pub past_constant : Past
 past_constant ts =
@@ -81,13 +105,13 @@ unfoldable pub past_names : Past
 past_names ts = past_brackets ts then past_shape then past_list part.Name then past_mark mark.Colon then past_end
 
 -- after the word PROC
-unfoldable pub past_procedure : Past
+abbrev pub past_procedure : Past
 past_procedure ts = past_name ts then past_mark mark.OpenParenthesis then past_parentheses part.Formal
 
-unfoldable pub past_expression_alone : Past
+abbrev pub past_expression_alone : Past
 past_expression_alone ts = past_whole ts then past_end
 
-unfoldable pub past_place_alone : Past
+abbrev pub past_place_alone : Past
 past_place_alone ts = past_name ts then past_brackets then past_end
 
 -- after the place that an assignment or a communication begins with
@@ -141,7 +165,7 @@ skip_or ts (Some after) = past_end after
 abbrev pub past_guarded : Past
 past_guarded ts = skip_or ts (behind mark.Skip ts)
 
-unfoldable pub past_conditioned : Past
+abbrev pub past_conditioned : Past
 past_conditioned ts = past_whole ts then past_mark mark.Guard then past_guarded
 
 unfoldable pub past_guard : Past
@@ -153,7 +177,7 @@ past_item (Mark mark.Val ∷ ts) = past_constant ts
 past_item (Mark mark.Proc ∷ ts) = past_procedure ts
 past_item (t ∷ ts) = lacking (Wants wanted.Item) (t ∷ ts)
 
-unfoldable pub past_colon : Past
+abbrev pub past_colon : Past
 past_colon ts = past_mark mark.Colon ts then past_end
 
 -- a line of this form has to come

@@ -3,9 +3,8 @@
 ghost use Rattle.std.specs.Prelude.{◌≡◌, ◌<◌, ◌≤◌, length, option_map, IfSome, map};
 ghost use Rattle.occam_parser.specs.Terminals.{terminals_of};
 ghost use Rattle.occam_parser.specs.Blocks.{row_of, rows_of};
-ghost use Rattle.program_reasons.specs.Contexts.{last_up_to, line_numbered, mark_of, is_declaration, places_of};
-ghost use Rattle.program_reasons.specs.Contexts.{context_of};
-ghost use Rattle.program_reasons.specs.Contexts.{places_below, places_below_other, only_one};
+ghost use Rattle.program_reasons.specs.Contexts.{is_sought, last_that, mark_of, is_declaration, places_of};
+ghost use Rattle.program_reasons.specs.Contexts.{places_below_other, places_below, only_one, context_of};
 
 use crate::forms::Form;
 use crate::stuck::first;
@@ -22,6 +21,15 @@ enum Places {
     None,
 }
 
+/// Which of the lines above is looked for.
+#[derive(Clone, Copy)]
+pub(crate) enum Sought {
+    /// One at this level or less deep.
+    UpTo(u32),
+    /// The one with this number.
+    Number(u32),
+}
+
 /// What a line may be, by the lines above it.
 #[derive(Clone, Copy)]
 pub enum Context {
@@ -33,35 +41,29 @@ pub enum Context {
     OnlyOne { head: u32, first: u32 },
 }
 
-/// The last of some lines that is at this level or less deep, and the lines before it.
-#[tactic(auto, using(crate::proofs::LinesAbove::left_is, crate::proofs::LinesAbove::left_len_is, crate::proofs::LinesAbove::is_here, crate::proofs::LinesAbove::is_before))]
-fn last_up_to<'l, 'a>(level: u32, lines: &'l [Line<'a>]) -> Option<(&'l Line<'a>, &'l [Line<'a>])>
-    ensures found { option_map (λ x. (row_of x.0.now, rows_of x.1.now)) result ≡ last_up_to level (rows_of lines.now) }
-    ensures within { IfSome result (λ x. length x.1.now < length lines.now) }
+/// Whether a line is looked for.
+fn is_sought(sought: Sought, line: &Line<'_>) -> bool
+    ensures { result ≡ is_sought sought (row_of line.now) }
 {
-    let mut next = lines.split_last();
-    while let Some((line, before)) = next {
-        if line.level <= level {
-            return Some((line, before));
-        }
-        next = before.split_last();
+    match sought {
+        Sought::UpTo(level) => line.level <= level,
+        Sought::Number(number) => line.number == number,
     }
-    None
 }
 
-/// The line with this number, and the lines before it.
+/// The last of some lines that is looked for, and the lines before it.
 #[tactic(auto, using(crate::proofs::LinesAbove::left_is, crate::proofs::LinesAbove::left_len_is, crate::proofs::LinesAbove::is_here, crate::proofs::LinesAbove::is_before))]
-pub(crate) fn line_numbered<'l, 'a>(
-    number: u32,
+pub(crate) fn last_that<'l, 'a>(
+    sought: Sought,
     lines: &'l [Line<'a>],
 ) -> Option<(&'l Line<'a>, &'l [Line<'a>])>
     ensures found { option_map (λ x. (row_of x.0.now, rows_of x.1.now)) result
-        ≡ line_numbered number (rows_of lines.now) }
+        ≡ last_that (is_sought sought) (rows_of lines.now) }
     ensures within { IfSome result (λ x. length x.1.now < length lines.now) }
 {
     let mut next = lines.split_last();
     while let Some((line, before)) = next {
-        if line.number == number {
+        if is_sought(sought, line) {
             return Some((line, before));
         }
         next = before.split_last();
@@ -108,7 +110,7 @@ fn places_below_other(line: &Line<'_>, above: &[Line<'_>]) -> Places
     if line.level == 0 {
         return Places::None;
     }
-    match last_up_to(line.level - 1, above) {
+    match last_that(Sought::UpTo(line.level - 1), above) {
         Some((head, _)) if matches!(mark_of(&head.tokens), Some(Mark::If | Mark::Alt)) => {
             Places::One(Form::Process)
         }
@@ -133,7 +135,7 @@ fn places_below(line: &Line<'_>, above: &[Line<'_>]) -> Places
 fn only_one(form: Form, head: u32, level: u32, above: &[Line<'_>]) -> Context
     ensures { result ≡ only_one form head level (rows_of above.now) }
 {
-    match last_up_to(level, above) {
+    match last_that(Sought::UpTo(level), above) {
         Some((line, _)) if line.level == level && !is_declaration(line) => Context::OnlyOne {
             head,
             first: line.number,
@@ -148,14 +150,14 @@ pub(crate) fn context_of(level: u32, above: &[Line<'_>]) -> Context
     ensures { result ≡ context_of level (rows_of above.now) }
 {
     if level == 0 {
-        return match last_up_to(0, above) {
+        return match last_that(Sought::UpTo(0), above) {
             Some((line, _)) if matches!(mark_of(&line.tokens), Some(Mark::Proc)) => {
                 Context::Wants(Form::Colon)
             }
             _ => Context::Wants(Form::Item),
         };
     }
-    let Some((head, before)) = last_up_to(level - 1, above) else {
+    let Some((head, before)) = last_that(Sought::UpTo(level - 1), above) else {
         return Context::Wants(Form::Item);
     };
     match places_below(head, before) {

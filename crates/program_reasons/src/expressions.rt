@@ -4,7 +4,7 @@ ghost use Rattle.std.specs.Prelude.{◌≡◌, ◌<◌, ◌≤◌, length, optio
 ghost use Rattle.occam_parser.specs.Terminals.{terminals_of};
 ghost use Rattle.program_reasons.specs.Stuck.{seen};
 ghost use Rattle.program_reasons.specs.Expressions.{joint_of, joint_at, prefix_at, past_expression, past_operand};
-ghost use Rattle.program_reasons.specs.Expressions.{one_operator, past_chain, past_marked, past_within, past_inner};
+ghost use Rattle.program_reasons.specs.Expressions.{one_operator, past_chain, past_within, past_inner};
 
 use crate::stuck::{Lack, Past, Wanted, behind, first, lacking, past_mark};
 use occam_layout::{Mark, Token, TokenKind};
@@ -126,42 +126,27 @@ fn past_chain<'t, 'a>(levels: u32, mark: Mark, tokens: &'t [Token<'a>]) -> Past<
 
 /// An operand has to come: of an operator, or alone.
 #[cycle(expression)]
-#[tactic(auto, unfolding(crate::specs::Expressions::past_operand, crate::specs::Expressions::operand_with))]
+#[tactic(auto, unfolding(crate::specs::Expressions::past_operand, crate::specs::Expressions::operand_with, crate::specs::Expressions::past_marked))]
 fn past_operand<'t, 'a>(levels: u32, tokens: &'t [Token<'a>]) -> Past<'t, 'a>
     ensures found { seen result ≡ past_operand levels (terminals_of tokens.now) }
     ensures within { IfOk result (λ rest. length rest.now ≤ length tokens.now) }
 {
-    match first(tokens) {
-        Some((TokenKind::Integer(_) | TokenKind::Character(_), rest)) => Ok(rest),
-        Some((TokenKind::Name(_), rest)) => match behind(Mark::OpenBracket, rest) {
+    let Some((token, rest)) = first(tokens) else {
+        return lacking(Lack::Token(Wanted::Operand), tokens);
+    };
+    match token {
+        TokenKind::Integer(_) | TokenKind::Character(_) => Ok(rest),
+        TokenKind::Name(_) => match behind(Mark::OpenBracket, rest) {
             Some(after) => past_inner(levels, Mark::CloseBracket, after),
             None => Ok(rest),
         },
-        Some((TokenKind::Mark(mark), rest)) => past_marked(levels, mark, tokens, rest),
-        _ => lacking(Lack::Token(Wanted::Operand), tokens),
-    }
-}
-
-/// An operand that begins with this mark has to come; the tokens after the mark are there too.
-#[cycle(expression)]
-#[tactic(auto, unfolding(crate::specs::Expressions::past_marked))]
-fn past_marked<'t, 'a>(
-    levels: u32,
-    mark: Mark,
-    tokens: &'t [Token<'a>],
-    rest: &'t [Token<'a>],
-) -> Past<'t, 'a>
-    requires { length rest.now ≤ length tokens.now }
-    ensures found { seen result ≡ past_marked (past_inner levels) (past_within levels) mark (terminals_of tokens.now)
-        (terminals_of rest.now) }
-    ensures within { IfOk result (λ rest. length rest.now ≤ length tokens.now) }
-{
-    match mark {
-        Mark::True | Mark::False => Ok(rest),
-        Mark::MostPos | Mark::MostNeg => past_mark(Mark::Int, rest),
-        Mark::Int | Mark::Byte => past_within(levels, rest),
-        Mark::OpenParenthesis => past_inner(levels, Mark::CloseParenthesis, rest),
-        Mark::Subtract | Mark::BitNot | Mark::Not => lacking(Lack::Mixture, tokens),
+        TokenKind::Mark(Mark::True | Mark::False) => Ok(rest),
+        TokenKind::Mark(Mark::MostPos | Mark::MostNeg) => past_mark(Mark::Int, rest),
+        TokenKind::Mark(Mark::Int | Mark::Byte) => past_within(levels, rest),
+        TokenKind::Mark(Mark::OpenParenthesis) => past_inner(levels, Mark::CloseParenthesis, rest),
+        TokenKind::Mark(Mark::Subtract | Mark::BitNot | Mark::Not) => {
+            lacking(Lack::Mixture, tokens)
+        }
         _ => lacking(Lack::Token(Wanted::Operand), tokens),
     }
 }

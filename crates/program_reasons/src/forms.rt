@@ -4,13 +4,10 @@ ghost use Rattle.std.specs.Prelude.{◌≡◌, ◌≤◌, length, IfOk};
 ghost use Rattle.occam_parser.specs.Terminals.{terminals_of};
 ghost use Rattle.occam_parser.specs.LineReading.{has_condition};
 ghost use Rattle.program_reasons.specs.Stuck.{seen};
-ghost use Rattle.program_reasons.specs.Forms.{past_brackets, past_type, past_shape, past_part, past_list};
-ghost use Rattle.program_reasons.specs.Forms.{past_parentheses, past_value, past_constant, past_names, past_whole};
-ghost use Rattle.program_reasons.specs.Forms.{past_formal, past_procedure, past_expression_alone, past_place_alone};
-ghost use Rattle.program_reasons.specs.Forms.{past_named_action, past_placed, past_replicator, past_process};
-ghost use Rattle.program_reasons.specs.Forms.{past_marked_process, past_guard, past_conditioned, past_input};
-ghost use Rattle.program_reasons.specs.Forms.{past_item};
-ghost use Rattle.program_reasons.specs.Forms.{past_colon, past_form};
+ghost use Rattle.program_reasons.specs.Forms.{past_whole, past_brackets, past_type, past_shape, past_formal, past_part};
+ghost use Rattle.program_reasons.specs.Forms.{past_list, past_parentheses, past_value, past_step, past_all, past_constant};
+ghost use Rattle.program_reasons.specs.Forms.{past_names, past_placed, past_named_action, past_replicator};
+ghost use Rattle.program_reasons.specs.Forms.{past_process, past_input, past_guard, past_item, past_form};
 
 use crate::expressions::past_expression;
 use crate::stuck::{Lack, Past, Wanted, behind, first, lacking, past_end, past_mark, past_name};
@@ -38,6 +35,33 @@ enum Part {
     Expression,
     Name,
     Formal,
+}
+
+/// What a line goes on with.
+#[derive(Clone, Copy)]
+enum Step {
+    Name,
+    Mark(Mark),
+    /// `INT` or `BYTE`.
+    Type,
+    /// A type, or `CHAN OF` and a type.
+    Shape,
+    Expression,
+    /// An expression in brackets, if any.
+    Brackets,
+    /// What a constant denotes, which is a table or not.
+    Value(bool),
+    List(Part),
+    /// A list, if any, and the parenthesis that ends the line.
+    Parentheses(Part),
+    End,
+}
+
+/// Steps by their names.
+macro_rules! steps {
+    ($($step:ident $(($which:expr))?)*) => {
+        &[$(Step::$step $(($which))?),*]
+    };
 }
 
 /// An expression has to come.
@@ -168,6 +192,38 @@ fn past_value<'t, 'a>(is_table: bool, tokens: &'t [Token<'a>]) -> Past<'t, 'a>
     }
 }
 
+/// One step has to come.
+fn past_step<'t, 'a>(step: Step, tokens: &'t [Token<'a>]) -> Past<'t, 'a>
+    ensures found { seen result ≡ past_step step (terminals_of tokens.now) }
+    ensures within { IfOk result (λ rest. length rest.now ≤ length tokens.now) }
+{
+    match step {
+        Step::Name => past_name(tokens),
+        Step::Mark(mark) => past_mark(mark, tokens),
+        Step::Type => past_type(Lack::Token(Wanted::ValueType), tokens),
+        Step::Shape => past_shape(tokens),
+        Step::Expression => past_whole(tokens),
+        Step::Brackets => past_brackets(tokens),
+        Step::Value(is_table) => past_value(is_table, tokens),
+        Step::List(part) => past_list(part, tokens),
+        Step::Parentheses(part) => past_parentheses(part, tokens),
+        Step::End => past_end(tokens),
+    }
+}
+
+/// These steps have to come, one after the other.
+#[cycle(steps)]
+#[tactic(auto, using(crate::proofs::Steps::stays))]
+fn past_all<'t, 'a>(steps: &[Step], tokens: &'t [Token<'a>]) -> Past<'t, 'a>
+    ensures found { seen result ≡ past_all steps.now (terminals_of tokens.now) }
+    ensures within { IfOk result (λ rest. length rest.now ≤ length tokens.now) }
+{
+    match steps.split_first() {
+        Some((step, others)) => past_all(others, past_step(*step, tokens)?),
+        None => Ok(tokens),
+    }
+}
+
 /// A constant has to come, after the word `VAL`.
 #[tactic(auto, unfolding(crate::specs::Forms::past_constant))]
 fn past_constant<'t, 'a>(tokens: &'t [Token<'a>]) -> Past<'t, 'a>
@@ -175,9 +231,8 @@ fn past_constant<'t, 'a>(tokens: &'t [Token<'a>]) -> Past<'t, 'a>
     ensures within { IfOk result (λ rest. length rest.now ≤ length tokens.now) }
 {
     let is_table = behind(Mark::OpenBracket, tokens).is_some();
-    let rest = past_type(Lack::Token(Wanted::ValueType), past_brackets(tokens)?)?;
-    let rest = past_mark(Mark::Is, past_name(rest)?)?;
-    past_end(past_mark(Mark::Colon, past_value(is_table, rest)?)?)
+    let steps = steps!(Brackets Type Name Mark(Mark::Is) Value(is_table) Mark(Mark::Colon) End);
+    past_all(steps, tokens)
 }
 
 /// A declaration of variables or channels has to come.
@@ -186,36 +241,10 @@ fn past_names<'t, 'a>(tokens: &'t [Token<'a>]) -> Past<'t, 'a>
     ensures found { seen result ≡ past_names (terminals_of tokens.now) }
     ensures within { IfOk result (λ rest. length rest.now ≤ length tokens.now) }
 {
-    let rest = past_shape(past_brackets(tokens)?)?;
-    past_end(past_mark(Mark::Colon, past_list(Part::Name, rest)?)?)
-}
-
-/// The head of a procedure has to come, after the word `PROC`.
-#[tactic(auto, unfolding(crate::specs::Forms::past_procedure))]
-fn past_procedure<'t, 'a>(tokens: &'t [Token<'a>]) -> Past<'t, 'a>
-    ensures found { seen result ≡ past_procedure (terminals_of tokens.now) }
-    ensures within { IfOk result (λ rest. length rest.now ≤ length tokens.now) }
-{
-    let rest = past_mark(Mark::OpenParenthesis, past_name(tokens)?)?;
-    past_parentheses(Part::Formal, rest)
-}
-
-/// An expression has to come, and then the end of the line.
-#[tactic(auto, unfolding(crate::specs::Forms::past_expression_alone))]
-fn past_expression_alone<'t, 'a>(tokens: &'t [Token<'a>]) -> Past<'t, 'a>
-    ensures found { seen result ≡ past_expression_alone (terminals_of tokens.now) }
-    ensures within { IfOk result (λ rest. length rest.now ≤ length tokens.now) }
-{
-    past_end(past_whole(tokens)?)
-}
-
-/// A variable has to come, and then the end of the line.
-#[tactic(auto, unfolding(crate::specs::Forms::past_place_alone))]
-fn past_place_alone<'t, 'a>(tokens: &'t [Token<'a>]) -> Past<'t, 'a>
-    ensures found { seen result ≡ past_place_alone (terminals_of tokens.now) }
-    ensures within { IfOk result (λ rest. length rest.now ≤ length tokens.now) }
-{
-    past_end(past_brackets(past_name(tokens)?)?)
+    past_all(
+        steps!(Brackets Shape List(Part::Name) Mark(Mark::Colon) End),
+        tokens,
+    )
 }
 
 /// An assignment or a communication has to go on, after its first place.
@@ -225,8 +254,10 @@ fn past_placed<'t, 'a>(tokens: &'t [Token<'a>]) -> Past<'t, 'a>
     ensures within { IfOk result (λ rest. length rest.now ≤ length tokens.now) }
 {
     match first(tokens) {
-        Some((TokenKind::Mark(Mark::Assign | Mark::Output), after)) => past_expression_alone(after),
-        Some((TokenKind::Mark(Mark::Input), after)) => past_place_alone(after),
+        Some((TokenKind::Mark(Mark::Assign | Mark::Output), after)) => {
+            past_all(steps!(Expression End), after)
+        }
+        Some((TokenKind::Mark(Mark::Input), after)) => past_all(steps!(Name Brackets End), after),
         _ => lacking(Lack::Token(Wanted::Action), tokens),
     }
 }
@@ -252,39 +283,28 @@ fn past_replicator<'t, 'a>(tokens: &'t [Token<'a>]) -> Past<'t, 'a>
     if tokens.is_empty() {
         return Ok(tokens);
     }
-    let rest = past_mark(Mark::Equal, past_name(tokens)?)?;
-    past_expression_alone(past_mark(Mark::For, past_whole(rest)?)?)
-}
-
-/// A line of a process that begins with this mark has to come; the tokens after the mark are there too.
-#[tactic(auto, unfolding(crate::specs::Forms::past_marked_process))]
-fn past_marked_process<'t, 'a>(
-    mark: Mark,
-    tokens: &'t [Token<'a>],
-    rest: &'t [Token<'a>],
-) -> Past<'t, 'a>
-    requires { length rest.now ≤ length tokens.now }
-    ensures found { seen result ≡ past_marked_process mark (terminals_of tokens.now) (terminals_of rest.now) }
-    ensures within { IfOk result (λ rest. length rest.now ≤ length tokens.now) }
-{
-    match mark {
-        Mark::Val => past_constant(rest),
-        Mark::Int | Mark::Byte | Mark::Chan | Mark::OpenBracket => past_names(tokens),
-        Mark::Skip | Mark::Stop => past_end(rest),
-        Mark::Seq | Mark::Par | Mark::If | Mark::Alt => past_replicator(rest),
-        _ => lacking(Lack::Token(Wanted::Process), tokens),
-    }
+    past_all(
+        steps!(Name Mark(Mark::Equal) Expression Mark(Mark::For) Expression End),
+        tokens,
+    )
 }
 
 /// A line of a process has to come.
-#[tactic(auto, unfolding(crate::specs::Forms::past_process))]
+#[tactic(auto, unfolding(crate::specs::Forms::past_process, crate::specs::Forms::past_marked_process))]
 fn past_process<'t, 'a>(tokens: &'t [Token<'a>]) -> Past<'t, 'a>
     ensures found { seen result ≡ past_process (terminals_of tokens.now) }
     ensures within { IfOk result (λ rest. length rest.now ≤ length tokens.now) }
 {
     match first(tokens) {
         Some((TokenKind::Name(_), rest)) => past_named_action(rest),
-        Some((TokenKind::Mark(mark), rest)) => past_marked_process(mark, tokens, rest),
+        Some((TokenKind::Mark(Mark::Val), rest)) => past_constant(rest),
+        Some((TokenKind::Mark(Mark::Int | Mark::Byte | Mark::Chan | Mark::OpenBracket), _)) => {
+            past_names(tokens)
+        }
+        Some((TokenKind::Mark(Mark::Skip | Mark::Stop), rest)) => past_end(rest),
+        Some((TokenKind::Mark(Mark::Seq | Mark::Par | Mark::If | Mark::Alt), rest)) => {
+            past_replicator(rest)
+        }
         _ => lacking(Lack::Token(Wanted::Process), tokens),
     }
 }
@@ -310,21 +330,10 @@ fn past_input<'t, 'a>(tokens: &'t [Token<'a>]) -> Past<'t, 'a>
     ensures found { seen result ≡ past_input (terminals_of tokens.now) }
     ensures within { IfOk result (λ rest. length rest.now ≤ length tokens.now) }
 {
-    let rest = past_brackets(past_name(tokens)?)?;
-    past_place_alone(past_mark(Mark::Input, rest)?)
-}
-
-/// A guard with a condition has to come.
-#[tactic(auto, unfolding(crate::specs::Forms::past_conditioned))]
-fn past_conditioned<'t, 'a>(tokens: &'t [Token<'a>]) -> Past<'t, 'a>
-    ensures found { seen result ≡ past_conditioned (terminals_of tokens.now) }
-    ensures within { IfOk result (λ rest. length rest.now ≤ length tokens.now) }
-{
-    let rest = past_mark(Mark::Guard, past_whole(tokens)?)?;
-    match behind(Mark::Skip, rest) {
-        Some(after) => past_end(after),
-        None => past_input(rest),
-    }
+    past_all(
+        steps!(Name Brackets Mark(Mark::Input) Name Brackets End),
+        tokens,
+    )
 }
 
 /// A guard has to come.
@@ -333,10 +342,13 @@ fn past_guard<'t, 'a>(tokens: &'t [Token<'a>]) -> Past<'t, 'a>
     ensures found { seen result ≡ past_guard (terminals_of tokens.now) }
     ensures within { IfOk result (λ rest. length rest.now ≤ length tokens.now) }
 {
-    if has_condition(tokens) {
-        past_conditioned(tokens)
-    } else {
-        past_input(tokens)
+    if !has_condition(tokens) {
+        return past_input(tokens);
+    }
+    let rest = past_all(steps!(Expression Mark(Mark::Guard)), tokens)?;
+    match behind(Mark::Skip, rest) {
+        Some(after) => past_end(after),
+        None => past_input(rest),
     }
 }
 
@@ -348,18 +360,14 @@ fn past_item<'t, 'a>(tokens: &'t [Token<'a>]) -> Past<'t, 'a>
 {
     match first(tokens) {
         Some((TokenKind::Mark(Mark::Val), rest)) => past_constant(rest),
-        Some((TokenKind::Mark(Mark::Proc), rest)) => past_procedure(rest),
+        Some((TokenKind::Mark(Mark::Proc), rest)) => {
+            past_all(
+                steps!(Name Mark(Mark::OpenParenthesis) Parentheses(Part::Formal)),
+                rest,
+            )
+        }
         _ => lacking(Lack::Token(Wanted::Item), tokens),
     }
-}
-
-/// The `:` that ends a procedure has to come.
-#[tactic(auto, unfolding(crate::specs::Forms::past_colon))]
-fn past_colon<'t, 'a>(tokens: &'t [Token<'a>]) -> Past<'t, 'a>
-    ensures found { seen result ≡ past_colon (terminals_of tokens.now) }
-    ensures within { IfOk result (λ rest. length rest.now ≤ length tokens.now) }
-{
-    past_end(past_mark(Mark::Colon, tokens)?)
 }
 
 /// A line of this form has to come. If it does not, the place is in the line.
@@ -368,9 +376,9 @@ pub(crate) fn past_form<'t, 'a>(form: Form, tokens: &'t [Token<'a>]) -> Past<'t,
 {
     match form {
         Form::Item => past_item(tokens),
-        Form::Colon => past_colon(tokens),
+        Form::Colon => past_all(steps!(Mark(Mark::Colon) End), tokens),
         Form::Process => past_process(tokens),
-        Form::Choice => past_expression_alone(tokens),
+        Form::Choice => past_all(steps!(Expression End), tokens),
         Form::Guard => past_guard(tokens),
     }
 }

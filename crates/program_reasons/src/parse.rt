@@ -7,7 +7,7 @@ ghost use Rattle.occam_parser.specs.declared.fault.ParseFault.{ParseFault};
 ghost use Rattle.program_reasons.specs.ParseReasons.{number_of_lack, number_of, form_reason, row_reason, of_number};
 ghost use Rattle.program_reasons.specs.ParseReasons.{parse_reason};
 
-use crate::context::{Context, context_of, line_numbered};
+use crate::context::{Context, Sought, context_of, last_that};
 use crate::forms::{Form, past_form};
 use crate::stuck::{Lack, Stuck};
 use occam_layout::Line;
@@ -47,8 +47,7 @@ fn number_of(reason: ParseReason) -> u8
 {
     match reason {
         ParseReason::Form { stuck, .. } => number_of_lack(stuck.lack),
-        ParseReason::NothingBelow { .. } => UNEXPECTED_TOKEN,
-        ParseReason::OnlyOne { .. } => UNEXPECTED_TOKEN,
+        ParseReason::NothingBelow { .. } | ParseReason::OnlyOne { .. } => UNEXPECTED_TOKEN,
         ParseReason::MissingColon => UNEXPECTED_TOKEN,
         ParseReason::MissingBody => MISSING_BODY,
         ParseReason::DeepLine => NESTING,
@@ -104,7 +103,7 @@ pub fn parse_reason(lines: &[Line<'_>], fault: ParseFault) -> Option<ParseReason
     if fault.number == MISSING_BODY {
         return Some(ParseReason::MissingBody);
     }
-    let (line, above) = line_numbered(fault.line, lines)?;
+    let (line, above) = last_that(Sought::Number(fault.line), lines)?;
     let reason = line_reason(above, line, above.len() + 1 == lines.len());
     of_number(fault.number, reason)
 }

@@ -1,322 +1,290 @@
-//! The walk over processes.
+//! The walk over a program.
 
-use crate::declaring::{declare, line_of};
 use crate::parts::{Part, Visitor};
 use occam_parser::{
-    Action, Body, Branch, Choice, Construct, Declaration, Expr, Guard, Process, Replicator,
+    Action, Body, Branch, Choice, Constant, Construct, Declaration, Guard, Item, OneOrMore, Proc,
+    Process, Replicator,
 };
 use program_uses::{
-    ChangeLists, Signature, add_name, repeats_of, variables_changed, variables_changed_in,
+    Signature, add_name, channel_meaning, constant_meaning, repeats_of, variable_meaning,
+    variables_changed, variables_changed_in,
 };
-use scalar_ranges::{Scope, narrow_by};
+use scalar_ranges::{Meaning, Scope, narrow_by};
 use std::alloc::{AllocError, Global};
-use usage_checks::{after_action, after_input};
+use usage_checks::{add_formals, after_action, after_input, parameters_for};
 
-/// Where a process is.
-#[derive(Clone, Copy)]
-pub(crate) struct Place<'s> {
-    pub(crate) alloc: Global,
-    /// What is known of the procedures before.
-    pub(crate) signatures: &'s [Signature],
-    /// What the constructs in the procedure change.
-    pub(crate) lists: &'s ChangeLists,
+/// What is known at a place of a program.
+#[derive(Drop)]
+struct Walk<'a> {
+    alloc: Global,
+    scope: Scope<'a>,
+    /// What is known of the procedures before, but for the ends of channels that they use.
+    signatures: Vec<Signature>,
+    /// Whether memory was enough.
+    complete: bool,
 }
 
-/// The names of declarations, one line after the other.
-fn walk_declarations<'a, V: Visitor>(
-    visitor: &mut V,
-    scope: &mut Scope<'a>,
-    declarations: &[Declaration<'a>],
-) -> Result<(), AllocError> {
-    for declaration in declarations {
-        visitor.visit(scope, line_of(declaration), Part::Declaration(declaration));
-        declare(scope, declaration)?;
+/// The line of a declaration.
+fn line_of(declaration: &Declaration) -> u32 {
+    match declaration {
+        Declaration::Constant(constant) => constant.line,
+        Declaration::Variables(names) | Declaration::Channels(names) => names.line,
     }
-    Ok(())
 }
 
-/// A condition, and then where it holds.
-fn walk_condition<V: Visitor>(visitor: &mut V, scope: &mut Scope, line: u32, condition: &Expr) {
-    visitor.visit(scope, line, Part::Condition(condition));
-    narrow_by(scope, condition, true);
-}
+impl<'a> Walk<'a> {
+    /// One name more.
+    fn add(&mut self, name: &'a [u8], meaning: Meaning) {
+        self.complete &= add_name(&mut self.scope, name, meaning).is_ok();
+    }
 
-/// A guard, and then where it is ready.
-fn walk_guard<V: Visitor>(visitor: &mut V, scope: &mut Scope, line: u32, guard: &Guard) {
-    visitor.visit(scope, line, Part::Guard(guard));
-    match guard {
-        Guard::Skip { condition } => narrow_by(scope, condition, true),
-        Guard::Input {
-            condition,
-            target,
-            ..
-        } => {
-            if let Some(condition) = condition {
-                narrow_by(scope, condition, true);
-            }
-            after_input(scope, target);
+    /// Some names, which mean the same.
+    fn add_all(&mut self, names: &OneOrMore<&'a [u8]>, meaning: Meaning) {
+        self.add(names.first, meaning);
+        for name in &names.others {
+            self.add(name, meaning);
         }
     }
-}
 
-impl<'s> Place<'s> {
-    /// The body of a replicated `SEQ` on this line begins.
-    fn begin_loop<'a>(
-        self,
-        scope: &mut Scope<'a>,
-        line: u32,
-        replicator: &Replicator<'a>,
-        body: &Body<'a>,
-    ) -> Result<(), AllocError> {
-        match self.lists.on_line(line) {
-            Some(numbers) => scope.begin_loop(numbers),
-            None => {
-                let signatures = self.signatures;
-                let numbers = variables_changed_in(
-                    self.alloc, signatures, scope, replicator, body,
-                )?;
-                scope.begin_loop(&numbers)
+    /// The name of a constant.
+    fn add_constant(&mut self, constant: &Constant<'a>) {
+        let meaning = constant_meaning(&self.scope, constant.value_type, &constant.value);
+        self.add(constant.name, meaning);
+    }
+
+    /// The names of a declaration.
+    fn declare(&mut self, declaration: &Declaration<'a>) {
+        match declaration {
+            Declaration::Constant(constant) => self.add_constant(constant),
+            Declaration::Variables(names) => {
+                let meaning = variable_meaning(&self.scope, names.value_type, &names.size);
+                self.add_all(&names.names, meaning);
             }
+            Declaration::Channels(names) => {
+                let meaning = channel_meaning(&self.scope, names.value_type, &names.size);
+                self.add_all(&names.names, meaning);
+            }
+        }
+    }
+
+    /// Declarations, one line after the other.
+    fn declarations<V: Visitor>(&mut self, visitor: &mut V, declarations: &[Declaration<'a>]) {
+        for declaration in declarations {
+            let line = line_of(declaration);
+            visitor.visit(&self.scope, line, Part::Declaration(declaration));
+            self.declare(declaration);
+        }
+    }
+
+    /// An action on this line, and what is known after it.
+    fn act<V: Visitor>(&mut self, visitor: &mut V, line: u32, action: &Action<'a>) {
+        visitor.visit(&self.scope, line, Part::Action(action));
+        after_action(&mut self.scope, &self.signatures, action);
+    }
+
+    /// A guard, and then where it is ready.
+    fn guard<V: Visitor>(&mut self, visitor: &mut V, line: u32, guard: &Guard<'a>) {
+        visitor.visit(&self.scope, line, Part::Guard(guard));
+        match guard {
+            Guard::Skip { condition } => narrow_by(&mut self.scope, condition, true),
+            Guard::Input {
+                condition,
+                target,
+                ..
+            } => {
+                if let Some(condition) = condition {
+                    narrow_by(&mut self.scope, condition, true);
+                }
+                after_input(&mut self.scope, target);
+            }
+        }
+    }
+
+    /// The body of a replicated `SEQ` begins.
+    fn begin_loop(&mut self, replicator: &Replicator<'a>, body: &Body<'a>) {
+        let changed = variables_changed_in(
+            self.alloc,
+            &self.signatures,
+            &mut self.scope,
+            replicator,
+            body,
+        );
+        match changed {
+            Ok(numbers) => self.complete &= self.scope.begin_loop(&numbers).is_ok(),
+            Err(_) => self.complete = false,
         }
     }
 
     /// The turns of a body begin.
-    fn begin_turns<'a>(
-        self,
-        scope: &mut Scope<'a>,
-        line: u32,
-        replicator: &Replicator<'a>,
-        body: &Body<'a>,
-    ) -> Result<(), AllocError> {
+    fn begin_turns(&mut self, replicator: &Replicator<'a>, body: &Body<'a>) {
         match body {
-            Body::Seq(_) => self.begin_loop(scope, line, replicator, body),
-            Body::Par(_) => scope.begin_par(),
-            Body::If(_) | Body::Alt(_) => scope.begin(),
+            Body::Seq(_) => self.begin_loop(replicator, body),
+            Body::Par(_) => self.complete &= self.scope.begin_par().is_ok(),
+            Body::If(_) | Body::Alt(_) => self.complete &= self.scope.begin().is_ok(),
         }
-    }
-
-    /// An action, and what is known after it.
-    fn walk_action<V: Visitor>(
-        self,
-        visitor: &mut V,
-        scope: &mut Scope,
-        line: u32,
-        action: &Action,
-    ) {
-        visitor.visit(scope, line, Part::Action(action));
-        after_action(scope, self.signatures, action);
     }
 
     /// A process, with what it declares.
     #[cycle(walk)]
-    pub(crate) fn walk<'a, V: Visitor>(
-        self,
-        visitor: &mut V,
-        scope: &mut Scope<'a>,
-        process: &Process<'a>,
-    ) -> Result<(), AllocError> {
-        walk_declarations(visitor, scope, &process.declarations)?;
-        self.walk_construct(visitor, scope, process.line, &process.construct)
+    fn process<V: Visitor>(&mut self, visitor: &mut V, process: &Process<'a>) {
+        self.declarations(visitor, &process.declarations);
+        self.construct(visitor, process.line, &process.construct);
     }
 
     /// A construct that begins on this line.
     #[cycle(walk)]
-    fn walk_construct<'a, V: Visitor>(
-        self,
-        visitor: &mut V,
-        scope: &mut Scope<'a>,
-        line: u32,
-        construct: &Construct<'a>,
-    ) -> Result<(), AllocError> {
-        if let Construct::Action(action) = construct {
-            self.walk_action(visitor, scope, line, action);
-            return Ok(());
+    fn construct<V: Visitor>(&mut self, visitor: &mut V, line: u32, construct: &Construct<'a>) {
+        if !matches!(construct, Construct::Action(_)) {
+            visitor.visit(&self.scope, line, Part::Construct(construct));
         }
-        visitor.visit(scope, line, Part::Construct(construct));
-        self.walk_block(visitor, scope, line, construct)
-    }
-
-    /// What is in a construct.
-    #[cycle(walk)]
-    fn walk_block<'a, V: Visitor>(
-        self,
-        visitor: &mut V,
-        scope: &mut Scope<'a>,
-        line: u32,
-        construct: &Construct<'a>,
-    ) -> Result<(), AllocError> {
         match construct {
-            Construct::Action(_) => Ok(()),
-            Construct::Seq(processes) => self.walk_seq(visitor, scope, processes),
-            Construct::Par(processes) => self.walk_par(visitor, scope, processes),
-            Construct::If(choices) => self.walk_if(visitor, scope, choices),
-            Construct::Alt(branches) => self.walk_alt(visitor, scope, branches),
+            Construct::Action(action) => self.act(visitor, line, action),
+            Construct::Seq(processes) => {
+                for process in processes {
+                    self.inner(visitor, process);
+                }
+            }
+            Construct::Par(processes) => {
+                self.complete &= self.scope.begin_par().is_ok();
+                for process in processes {
+                    self.component(visitor, process);
+                }
+                self.scope.end();
+            }
+            Construct::If(choices) => {
+                self.complete &= self.scope.begin().is_ok();
+                for choice in choices {
+                    self.choice(visitor, choice);
+                }
+                self.scope.end();
+            }
+            Construct::Alt(branches) => {
+                self.complete &= self.scope.begin().is_ok();
+                for branch in branches {
+                    self.branch(visitor, branch);
+                }
+                self.scope.end();
+            }
             Construct::Replicated { replicator, body } => {
-                self.walk_body(visitor, scope, line, replicator, body)
+                self.replicated(visitor, line, replicator, body);
             }
         }
     }
 
-    /// The processes of a `SEQ`.
+    /// A process whose names are left after it.
     #[cycle(walk)]
-    fn walk_seq<'a, V: Visitor>(
-        self,
-        visitor: &mut V,
-        scope: &mut Scope<'a>,
-        processes: &[Process<'a>],
-    ) -> Result<(), AllocError> {
-        for process in processes {
-            self.walk_process(visitor, scope, process)?;
-        }
-        Ok(())
-    }
-
-    /// A process of a `SEQ`.
-    #[cycle(walk)]
-    fn walk_process<'a, V: Visitor>(
-        self,
-        visitor: &mut V,
-        scope: &mut Scope<'a>,
-        process: &Process<'a>,
-    ) -> Result<(), AllocError> {
-        let count = scope.len();
-        self.walk(visitor, scope, process)?;
-        scope.leave(count);
-        Ok(())
-    }
-
-    /// The components of a `PAR`.
-    #[cycle(walk)]
-    fn walk_par<'a, V: Visitor>(
-        self,
-        visitor: &mut V,
-        scope: &mut Scope<'a>,
-        processes: &[Process<'a>],
-    ) -> Result<(), AllocError> {
-        scope.begin_par()?;
-        for process in processes {
-            self.walk_component(visitor, scope, process)?;
-        }
-        scope.end();
-        Ok(())
+    fn inner<V: Visitor>(&mut self, visitor: &mut V, process: &Process<'a>) {
+        let count = self.scope.len();
+        self.process(visitor, process);
+        self.scope.leave(count);
     }
 
     /// A component of a `PAR`.
     #[cycle(walk)]
-    fn walk_component<'a, V: Visitor>(
-        self,
-        visitor: &mut V,
-        scope: &mut Scope<'a>,
-        process: &Process<'a>,
-    ) -> Result<(), AllocError> {
-        match self.lists.on_line(process.line) {
-            Some(numbers) => {
-                self.walk(visitor, scope, process)?;
-                scope.next_component(numbers);
-            }
-            None => {
-                let signatures = self.signatures;
-                let numbers = variables_changed(self.alloc, signatures, scope, process)?;
-                self.walk(visitor, scope, process)?;
-                scope.next_component(&numbers);
-            }
+    fn component<V: Visitor>(&mut self, visitor: &mut V, process: &Process<'a>) {
+        let changed = variables_changed(self.alloc, &self.signatures, &mut self.scope, process);
+        self.process(visitor, process);
+        match changed {
+            Ok(numbers) => self.scope.next_component(&numbers),
+            Err(_) => self.complete = false,
         }
-        Ok(())
-    }
-
-    /// The choices of an `IF`.
-    #[cycle(walk)]
-    fn walk_if<'a, V: Visitor>(
-        self,
-        visitor: &mut V,
-        scope: &mut Scope<'a>,
-        choices: &[Choice<'a>],
-    ) -> Result<(), AllocError> {
-        scope.begin()?;
-        for choice in choices {
-            self.walk_choice(visitor, scope, choice)?;
-        }
-        scope.end();
-        Ok(())
     }
 
     /// A choice of an `IF`.
     #[cycle(walk)]
-    fn walk_choice<'a, V: Visitor>(
-        self,
-        visitor: &mut V,
-        scope: &mut Scope<'a>,
-        choice: &Choice<'a>,
-    ) -> Result<(), AllocError> {
-        scope.exclude(&choice.condition);
-        walk_condition(visitor, scope, choice.line, &choice.condition);
-        self.walk(visitor, scope, &choice.process)?;
-        scope.next();
-        Ok(())
-    }
-
-    /// The branches of an `ALT`.
-    #[cycle(walk)]
-    fn walk_alt<'a, V: Visitor>(
-        self,
-        visitor: &mut V,
-        scope: &mut Scope<'a>,
-        branches: &[Branch<'a>],
-    ) -> Result<(), AllocError> {
-        scope.begin()?;
-        for branch in branches {
-            self.walk_branch(visitor, scope, branch)?;
-        }
-        scope.end();
-        Ok(())
+    fn choice<V: Visitor>(&mut self, visitor: &mut V, choice: &Choice<'a>) {
+        self.scope.exclude(&choice.condition);
+        visitor.visit(&self.scope, choice.line, Part::Condition(&choice.condition));
+        narrow_by(&mut self.scope, &choice.condition, true);
+        self.process(visitor, &choice.process);
+        self.scope.next();
     }
 
     /// A branch of an `ALT`.
     #[cycle(walk)]
-    fn walk_branch<'a, V: Visitor>(
-        self,
-        visitor: &mut V,
-        scope: &mut Scope<'a>,
-        branch: &Branch<'a>,
-    ) -> Result<(), AllocError> {
-        walk_guard(visitor, scope, branch.line, &branch.guard);
-        self.walk(visitor, scope, &branch.process)?;
-        scope.next();
-        Ok(())
+    fn branch<V: Visitor>(&mut self, visitor: &mut V, branch: &Branch<'a>) {
+        self.guard(visitor, branch.line, &branch.guard);
+        self.process(visitor, &branch.process);
+        self.scope.next();
     }
 
     /// A body under a replicator, once, with an index that may be each of its values, as that of a `SEQ`.
     #[cycle(walk)]
-    fn walk_body<'a, V: Visitor>(
-        self,
+    fn replicated<V: Visitor>(
+        &mut self,
         visitor: &mut V,
-        scope: &mut Scope<'a>,
         line: u32,
         replicator: &Replicator<'a>,
         body: &Body<'a>,
-    ) -> Result<(), AllocError> {
-        visitor.visit(scope, line, Part::Replicator(replicator));
-        let repeats = repeats_of(true, scope, true, replicator);
-        self.begin_turns(scope, line, replicator, body)?;
-        add_name(scope, replicator.name, repeats.index_in(0))?;
-        self.walk_turn(visitor, scope, body)?;
-        scope.end();
-        Ok(())
+    ) {
+        visitor.visit(&self.scope, line, Part::Replicator(replicator));
+        let repeats = repeats_of(true, &self.scope, true, replicator);
+        self.begin_turns(replicator, body);
+        self.add(replicator.name, repeats.index_in(0));
+        match body {
+            Body::Seq(process) => self.inner(visitor, process),
+            Body::Par(process) => self.component(visitor, process),
+            Body::If(choice) => self.choice(visitor, choice),
+            Body::Alt(branch) => self.branch(visitor, branch),
+        }
+        self.scope.end();
     }
 
-    /// The component under a replicator, in one turn.
-    #[cycle(walk)]
-    fn walk_turn<'a, V: Visitor>(
-        self,
-        visitor: &mut V,
-        scope: &mut Scope<'a>,
-        body: &Body<'a>,
-    ) -> Result<(), AllocError> {
-        match body {
-            Body::Seq(process) => self.walk_process(visitor, scope, process),
-            Body::Par(process) => self.walk_component(visitor, scope, process),
-            Body::If(choice) => self.walk_choice(visitor, scope, choice),
-            Body::Alt(branch) => self.walk_branch(visitor, scope, branch),
+    /// What those that call a procedure know of it.
+    fn sign(&mut self, proc: &Proc<'a>) {
+        match parameters_for(self.alloc, &self.scope, &proc.formals) {
+            Ok(parameters) => {
+                self.complete &= self.signatures.push(Signature { parameters }).is_ok();
+            }
+            Err(_) => self.complete = false,
         }
+    }
+
+    /// A procedure, and its name.
+    fn procedure<V: Visitor>(&mut self, visitor: &mut V, proc: &Proc<'a>) {
+        let count = self.scope.len();
+        let number = u32::try_from(self.signatures.len());
+        self.complete &= add_formals(self.alloc, &mut self.scope, &proc.formals).is_ok();
+        self.process(visitor, &proc.body);
+        self.scope.leave(count);
+        self.sign(proc);
+        match number {
+            Ok(number) => self.add(proc.name, Meaning::Proc(number)),
+            Err(_) => self.complete = false,
+        }
+    }
+
+    /// An item, with what those after it know of it.
+    fn item<V: Visitor>(&mut self, visitor: &mut V, item: &Item<'a>) {
+        visitor.visit(&self.scope, item.line(), Part::Item(item));
+        match item {
+            Item::Constant(constant) => self.add_constant(constant),
+            Item::Proc(proc) => self.procedure(visitor, proc),
+        }
+    }
+}
+
+/// Shows each part of a program to a visitor, in the order of its lines, with what is known there: of each name that is in
+/// scope what it denotes, and of a scalar its range, as the rules of usage know it. A part under a replicator is shown
+/// once, where its index may be each of its values. Whether the program breaks rules makes no difference. What is shown
+/// is claimed by no contract.
+pub fn walk_program<V: Visitor>(
+    alloc: Global,
+    items: &[Item],
+    visitor: &mut V,
+) -> Result<(), AllocError> {
+    let mut walk = Walk {
+        alloc,
+        scope: Scope::new(alloc),
+        signatures: Vec::new(alloc),
+        complete: true,
+    };
+    for item in items {
+        walk.item(visitor, item);
+    }
+    if walk.complete {
+        Ok(())
+    } else {
+        Err(AllocError)
     }
 }

@@ -4,6 +4,7 @@ use Rattle.std.specs.Prelude.{nat_le}
 use Rattle.std.specs.Prelude.{Option, Some, None}
 use Rattle.std.specs.Fmt.{decimal}
 use Rattle.occam_layout.specs.Reading.{is_character}
+use Rattle.reason_texts.specs.declared.block.Span.{Span}
 
 abbrev pub Text : Type 0
 Text = List ℕ
@@ -24,29 +25,27 @@ shown_byte b = if is_character b then b else 63
 abbrev pub meant : List ℕ → ℕ → ℕ → List ℕ
 meant line at len = take (if nat_le len 100 then len else 100) (drop at line)
 
--- bytes of a line, after what is said of them
-unfoldable pub closed_text : List ℕ → Text
-closed_text bytes = map shown_byte bytes ++ codes "`"
+-- what ends them: a quote, after two dots if not all of them are told
+abbrev pub closing_quote : ℕ → Text
+closing_quote len = if nat_le len 100 then codes "`" else codes "..`"
 
-unfoldable pub named_text : List ℕ → Text
-named_text bytes = codes ": `" ++ closed_text bytes
-
--- at most 200 bytes of a line, from an offset on
-unfoldable pub line_text : List ℕ → ℕ → Text
-line_text line from = map shown_byte (take 200 (drop from line)) ++ codes "\n"
+unfoldable pub closed_text : List ℕ → ℕ → ℕ → Text
+closed_text line at len = map shown_byte (meant line at len) ++ closing_quote len
 
 -- one caret at least, and 100 at most
 abbrev pub caret_count : ℕ → ℕ
 caret_count len = if len == 0 then 1 else (if nat_le len 100 then len else 100)
 
--- carets (94) after spaces (32)
-unfoldable pub below_text : ℕ → ℕ → Text
-below_text before len = replicate before 32 ++ replicate (caret_count len) 94
-
--- A line with carets below some of its bytes. What is shown begins 100 bytes before them.
+-- A line with carets (94) below some of its bytes, after spaces (32). At most 200 bytes are shown, from 100 before them on.
 unfoldable pub block_text : List ℕ → ℕ → ℕ → Text
-block_text line at len = line_text line (at - 100) ++ (below_text (at - (at - 100)) len ++ codes "\n")
+block_text line at len =
+    map shown_byte (take 200 (drop (at - 100) line)) ++ (codes "\n"
+    ++ (replicate (at - (at - 100)) 32 ++ (replicate (caret_count len) 94 ++ codes "\n")))
 
 abbrev pub hint_text : Option Text → Text
 hint_text None = []
 hint_text (Some hint) = codes "  hint: " ++ (hint ++ codes "\n")
+
+-- the number of a fault, its line, and what to write in its place
+unfoldable pub rest_text : ℕ → List ℕ → Span → Option Text → Text
+rest_text number line span hint = number_text number ++ (block_text line span.at span.len ++ hint_text hint)

@@ -11,7 +11,8 @@ use Rattle.source_reasons.specs.declared.layout.LayoutReason.{LayoutReason}
 use Rattle.source_reasons.specs.declared.layout.LayoutReason.TheVariants as reason
 use Rattle.source_reasons.specs.Lines.{Sight, line_found}
 use Rattle.source_reasons.specs.LayoutReasons.{place_of, layout_reason}
-use Rattle.reason_texts.specs.Blocks.{Text, place_text, number_text, meant, named_text, block_text, hint_text}
+use Rattle.reason_texts.specs.declared.block.Span.{Span}
+use Rattle.reason_texts.specs.Blocks.{Text, place_text, number_text, closed_text, rest_text}
 
 -- ---- why
 
@@ -38,7 +39,7 @@ deep_sentence level (Some above) =
 deep_sentence level None = codes "level " ++ (decimal level ++ codes ", but a source begins at level 0")
 
 unfoldable pub token_text : List ℕ → BadToken → Text
-token_text line bad = token_sentence bad.fault ++ named_text (meant line bad.at bad.len)
+token_text line bad = token_sentence bad.fault ++ (codes ": `" ++ closed_text line bad.at bad.len)
 
 -- the byte at a place of a line, or a space (32) at its end
 abbrev pub byte_at : List ℕ → ℕ → ℕ
@@ -89,23 +90,19 @@ hint (reason.TooManyBytes bytes) byte = None
 
 -- ---- the text
 
-unfoldable pub told_text : ℕ → List ℕ → LayoutReason → Text
-told_text number line r = sentence line r ++ number_text number
+-- how many bytes of a line are before those that are meant, and how many they are
+abbrev pub span_of : LayoutReason → Span
+span_of r = record { at = place_of r; len = len_of r }
 
--- where and why
-unfoldable pub head_text : Text → LayoutFault → List ℕ → LayoutReason → Text
-head_text path fault line r = place_text path fault.line (place_of r) ++ told_text fault.number line r
-
--- the line, and what to write in its place
-unfoldable pub tail_text : List ℕ → LayoutReason → Text
-tail_text line r = block_text line (place_of r) (len_of r) ++ hint_text (hint r (byte_at line (place_of r)))
-
+-- where and why, the line, and what to write in its place
 unfoldable pub whole_text : Text → LayoutFault → List ℕ → LayoutReason → Text
-whole_text path fault line r = head_text path fault line r ++ tail_text line r
+whole_text path fault line r =
+    place_text path fault.line (place_of r) ++ (sentence line r
+    ++ rest_text fault.number line (span_of r) (hint r (byte_at line (place_of r))))
 
 -- of a source with too many bytes no line is shown
 unfoldable pub source_text : Text → LayoutFault → LayoutReason → Text
-source_text path fault r = path ++ (codes ": " ++ told_text fault.number [] r)
+source_text path fault r = path ++ (codes ": " ++ (sentence [] r ++ number_text fault.number))
 
 abbrev pub text_of : Text → LayoutFault → LayoutReason → Option Sight → Text
 text_of path fault r (Some l) = whole_text path fault l.bytes r

@@ -1,5 +1,5 @@
 -- What is written of lines that are no program.
-use Rattle.std.specs.Prelude.{ℕ, ◌-◌, Bool, List, ◌++◌, length, codes, ◌==◌, slice_get, is_some}
+use Rattle.std.specs.Prelude.{ℕ, ◌-◌, Bool, List, [], ◌++◌, length, codes, ◌==◌, slice_get, is_some}
 use Rattle.std.specs.Prelude.{Option, Some, None, option_map}
 use Rattle.std.specs.List.{find}
 use Rattle.std.specs.Fmt.{decimal}
@@ -22,7 +22,7 @@ use Rattle.program_reasons.specs.declared.parse.ParseReason.{ParseReason}
 use Rattle.program_reasons.specs.declared.parse.ParseReason.TheVariants as reason
 use Rattle.program_reasons.specs.ParseReasons.{parse_reason}
 use Rattle.reason_texts.specs.declared.block.Span.{Span}
-use Rattle.reason_texts.specs.Blocks.{Text, place_text, number_text, meant, closed_text, block_text, hint_text}
+use Rattle.reason_texts.specs.Blocks.{Text, place_text, closed_text, rest_text}
 use Rattle.reason_texts.specs.Hints.{word_hint}
 
 -- ---- which bytes are meant
@@ -81,33 +81,40 @@ found_at tokens reason.DeepLine = None
 
 -- ---- why
 
-unfoldable pub wanted_text : Wanted → Text
-wanted_text (wanted.Mark m) = codes "`" ++ (spelling m ++ codes "`")
-wanted_text wanted.Name = codes "a name"
-wanted_text wanted.Operand = codes "an operand"
-wanted_text wanted.ValueType = codes "`INT` or `BYTE`"
-wanted_text wanted.Shape = codes "`INT`, `BYTE` or `CHAN OF`"
-wanted_text wanted.Table = codes "`[` or a string"
-wanted_text wanted.Action = codes "`:=`, `?` or `!`"
-wanted_text wanted.End = codes "the end of the line"
-wanted_text wanted.Item = codes "`VAL` or `PROC`"
-wanted_text wanted.Process = codes "a process"
+-- what is wanted, in words: of a keyword or a sign how it is spelled
+abbrev pub wanted_words : Wanted → Text
+wanted_words (wanted.Mark m) = spelling m
+wanted_words wanted.Name = codes "a name"
+wanted_words wanted.Operand = codes "an operand"
+wanted_words wanted.ValueType = codes "`INT` or `BYTE`"
+wanted_words wanted.Shape = codes "`INT`, `BYTE` or `CHAN OF`"
+wanted_words wanted.Table = codes "`[` or a string"
+wanted_words wanted.Action = codes "`:=`, `?` or `!`"
+wanted_words wanted.End = codes "the end of the line"
+wanted_words wanted.Item = codes "`VAL` or `PROC`"
+wanted_words wanted.Process = codes "a process"
+
+-- what is before and after these words
+abbrev pub wanted_quote : Wanted → Text
+wanted_quote (wanted.Mark m) = codes "`"
+wanted_quote w = []
+
+abbrev pub wanted_text : Wanted → Text
+wanted_text w =
+    codes ", but " ++ (wanted_quote w ++ (wanted_words w ++ (wanted_quote w ++ codes " was wanted")))
 
 -- the bytes of a token, or that there is none
 unfoldable pub found_text : List ℕ → Span → Option TokenKind → Text
 found_text line span None = codes "the line ended"
-found_text line span (Some kind) = codes "found `" ++ closed_text (meant line span.at span.len)
+found_text line span (Some kind) = codes "found `" ++ closed_text line span.at span.len
 
-unfoldable pub was_wanted : Wanted → Text
-was_wanted w = wanted_text w ++ codes " was wanted"
-
-unfoldable pub rest_text : Lack → Text
-rest_text (lack.Token w) = codes ", but " ++ was_wanted w
-rest_text lack.Nesting = codes ", but brackets, subscripts and conversions are nested at most 64 deep"
-rest_text lack.Mixture = codes " beside another operator, without brackets"
+unfoldable pub lack_text : Lack → Text
+lack_text (lack.Token w) = wanted_text w
+lack_text lack.Nesting = codes ", but brackets, subscripts and conversions are nested at most 64 deep"
+lack_text lack.Mixture = codes " beside another operator, without brackets"
 
 unfoldable pub stuck_text : List ℕ → Span → Option TokenKind → Lack → Text
-stuck_text line span found l = found_text line span found ++ rest_text l
+stuck_text line span found l = found_text line span found ++ lack_text l
 
 unfoldable pub sentence : List ℕ → Span → Option TokenKind → ParseReason → Text
 sentence line span found (reason.Form f s) = stuck_text line span found s.lack
@@ -203,35 +210,21 @@ kind_hint (token.Mark m) = None
 abbrev pub is_lacked : Token → Bool
 is_lacked t = is_some (kind_hint t.kind)
 
--- of the first such word of a line
-abbrev pub first_hint : Option Token → Option Text
-first_hint None = None
-first_hint (Some t) = kind_hint t.kind
+abbrev pub hint_or : Option Text → Option Token → Option Text
+hint_or other None = other
+hint_or other (Some t) = kind_hint t.kind
 
-abbrev pub hint_or : Option Text → Option Text → Option Text
-hint_or (Some h) other = Some h
-hint_or None other = other
-
--- what to write in the line's place
+-- what to write in the line's place: of its first such word, else of its fault
 unfoldable pub hint : List Token → ParseReason → Option TokenKind → Option Text
-hint tokens r found = hint_or (first_hint (find is_lacked tokens)) (reason_hint r found)
+hint tokens r found = hint_or (reason_hint r found) (find is_lacked tokens)
 
 -- ---- the text
 
-unfoldable pub told_text : ℕ → List ℕ → Span → Option TokenKind → ParseReason → Text
-told_text number line span found r = sentence line span found r ++ number_text number
-
--- where and why
-unfoldable pub head_text : Text → ParseFault → List ℕ → Span → Option TokenKind → ParseReason → Text
-head_text path fault line span found r = place_text path fault.line span.at ++ told_text fault.number line span found r
-
--- the line, and what to write in its place
-unfoldable pub tail_text : List ℕ → Span → Option Text → Text
-tail_text line span h = block_text line span.at span.len ++ hint_text h
-
+-- where and why, the line, and what to write in its place
 unfoldable pub whole_text : Text → ParseFault → List ℕ → Span → List Token → ParseReason → Text
 whole_text path fault line span tokens r =
-    head_text path fault line span (found_at tokens r) r ++ tail_text line span (hint tokens r (found_at tokens r))
+    place_text path fault.line span.at ++ (sentence line span (found_at tokens r) r
+    ++ rest_text fault.number line span (hint tokens r (found_at tokens r)))
 
 abbrev pub text_at : Text → ParseFault → List Token → ParseReason → Option Sight → Option Text
 text_at path fault tokens r None = None

@@ -2,8 +2,8 @@
 
 ghost use Rattle.std.specs.Prelude.{◌≡◌, ◌+◌, ◌++◌, ◌^◌, ◌<◌, OnOk, drop, map, option_map, replicate, string_bytes};
 ghost use Rattle.std.specs.Prelude.{take};
-ghost use Rattle.reason_texts.specs.Blocks.{place_text, number_text, shown_byte, line_text, below_text, block_text};
-ghost use Rattle.reason_texts.specs.Blocks.{hint_text, caret_count, meant, closed_text, named_text};
+ghost use Rattle.reason_texts.specs.Blocks.{place_text, number_text, shown_byte, block_text};
+ghost use Rattle.reason_texts.specs.Blocks.{hint_text, caret_count, meant, closing_quote, closed_text, rest_text};
 
 use std::alloc::AllocError;
 
@@ -66,34 +66,20 @@ pub fn meant(line: &[u8], at: usize, len: usize) -> &[u8]
     part(line, at, len.min(100))
 }
 
-/// Appends bytes of a line, and the quote that ends them.
+/// What ends the bytes of a line: a quote, after two dots if not all of them are told.
+fn closing_quote(len: usize) -> &'static str
+    ensures { result.now ≡ closing_quote len }
+{
+    if len <= 100 { "`" } else { "..`" }
+}
+
+/// Appends some bytes of a line, and what ends them.
 #[tactic(auto, unfolding(crate::specs::Blocks::closed_text))]
-pub(crate) fn push_closed(text: &mut String, bytes: &[u8]) -> Result<(), AllocError>
-    ensures { OnOk result (string_bytes text.new ≡ string_bytes text.old ++ closed_text bytes.now) }
+pub(crate) fn push_closed(text: &mut String, line: &[u8], span: Span) -> Result<(), AllocError>
+    ensures { OnOk result (string_bytes text.new ≡ string_bytes text.old ++ closed_text line.now span.at span.len) }
 {
-    push_bytes(text, bytes)?;
-    text.push_str("`")?;
-    Ok(())
-}
-
-/// Appends bytes of a line, after what is said of them.
-#[tactic(auto, unfolding(crate::specs::Blocks::named_text))]
-pub(crate) fn push_named(text: &mut String, bytes: &[u8]) -> Result<(), AllocError>
-    ensures { OnOk result (string_bytes text.new ≡ string_bytes text.old ++ named_text bytes.now) }
-{
-    text.push_str(": `")?;
-    push_closed(text, bytes)?;
-    Ok(())
-}
-
-/// Appends the part of a line that is shown, which begins at an offset.
-#[tactic(auto, unfolding(crate::specs::Blocks::line_text))]
-fn push_line(text: &mut String, line: &[u8], from: usize) -> Result<(), AllocError>
-    ensures { OnOk result (string_bytes text.new ≡ string_bytes text.old ++ line_text line.now from) }
-{
-    push_bytes(text, part(line, from, 200))?;
-    text.push_str("\n")?;
-    Ok(())
+    push_bytes(text, meant(line, span.at, span.len))?;
+    text.push_str(closing_quote(span.len))
 }
 
 /// Appends a sign as often as this.
@@ -117,26 +103,17 @@ fn caret_count(len: usize) -> usize
     len.min(100)
 }
 
-/// Appends the carets below some bytes of the part of a line that begins at an offset.
-#[tactic(auto, unfolding(crate::specs::Blocks::below_text))]
-fn push_below(text: &mut String, before: usize, len: usize) -> Result<(), AllocError>
-    ensures { OnOk result (string_bytes text.new ≡ string_bytes text.old ++ below_text before len) }
-{
-    push_times(text, before, b' ')?;
-    push_times(text, caret_count(len), b'^')?;
-    Ok(())
-}
-
 /// Appends a line, and carets below some of its bytes.
 #[tactic(auto, unfolding(crate::specs::Blocks::block_text))]
 pub fn push_block(text: &mut String, line: &[u8], span: Span) -> Result<(), AllocError>
     ensures { OnOk result (string_bytes text.new ≡ string_bytes text.old ++ block_text line.now span.at span.len) }
 {
     let from = span.at.saturating_sub(100);
-    push_line(text, line, from)?;
-    push_below(text, span.at - from, span.len)?;
+    push_bytes(text, part(line, from, 200))?;
     text.push_str("\n")?;
-    Ok(())
+    push_times(text, span.at - from, b' ')?;
+    push_times(text, caret_count(span.len), b'^')?;
+    text.push_str("\n")
 }
 
 /// Appends a hint, if there is one.
@@ -148,4 +125,21 @@ pub fn push_hint(text: &mut String, hint: Option<&str>) -> Result<(), AllocError
         Some(hint) => writeln!(text, "  hint: {hint}"),
         None => Ok(()),
     }
+}
+
+/// Appends the number of a fault, the line with carets below what is meant, and a hint, if there is one.
+#[tactic(auto, unfolding(crate::specs::Blocks::rest_text))]
+pub(crate) fn push_rest(
+    text: &mut String,
+    number: u8,
+    line: &[u8],
+    span: Span,
+    hint: Option<&str>,
+) -> Result<(), AllocError>
+    ensures { OnOk result (string_bytes text.new
+        ≡ string_bytes text.old ++ rest_text number line.now span (option_map (λ h. h.now) hint.entry)) }
+{
+    push_number(text, number)?;
+    push_block(text, line, span)?;
+    push_hint(text, hint)
 }

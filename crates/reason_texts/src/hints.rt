@@ -1,107 +1,64 @@
 //! What to write in place of a word of occam 2 that this language lacks.
 
-ghost use Rattle.std.specs.Prelude.{◌≡◌, option_map};
-ghost use Rattle.reason_texts.specs.Hints.{construct_hint, type_hint, declaration_hint, operator_hint, word_hint};
+ghost use Rattle.std.specs.Prelude.{◌≡◌, bytes_eq, map, option_copied, option_map};
+ghost use Rattle.std.specs.List.{find};
+ghost use Rattle.reason_texts.specs.Hints.{row_of, lacked_words, word_hint};
 
-/// What to write in place of a word that begins a construct.
-fn construct_hint(word: &[u8]) -> Option<&'static str>
-    ensures { option_map (λ h. h.now) result ≡ construct_hint word.now }
-{
-    if word == b"WHILE".as_slice() {
-        Some("this language has no WHILE; a loop has a constant count: SEQ i = 0 FOR n")
-    } else if word == b"CASE".as_slice() {
-        Some("this language has no CASE; write an IF whose choices are as x = 1")
-    } else if word == b"PRI".as_slice() {
-        Some("this language has no PRI; write ALT or PAR")
-    } else if word == b"PLACED".as_slice() {
-        Some("this language has no PLACED; each processor has its own module")
-    } else {
-        None
-    }
+/// A word, and what to write in its place.
+macro_rules! lacked {
+    ($word:literal $instead:literal) => {
+        ($word, concat!("this language has no ", $word, $instead))
+    };
 }
 
-/// What to write in place of a word of a type.
-fn type_hint(word: &[u8]) -> Option<&'static str>
-    ensures { option_map (λ h. h.now) result ≡ type_hint word.now }
+/// The words, each with what to write in its place: those that begin a construct, of types, of declarations, and between
+/// or before operands.
+fn lacked_words() -> [(&'static str, &'static str); 25]
+    ensures { map row_of result ≡ lacked_words }
 {
-    if word == b"BOOL".as_slice() {
-        Some("this language has no BOOL; write INT, with 1 and 0")
-    } else if word == b"TIMER".as_slice() {
-        Some("this language has no TIMER, and knows no time")
-    } else if word == b"PORT".as_slice() {
-        Some("this language has no PORT; channels alone lead out")
-    } else if word == b"REAL32".as_slice() {
-        Some("this language has no REAL32; its types are INT and BYTE")
-    } else if word == b"REAL64".as_slice() {
-        Some("this language has no REAL64; its types are INT and BYTE")
-    } else if word == b"INT16".as_slice() {
-        Some("this language has no INT16; its types are INT and BYTE")
-    } else if word == b"INT32".as_slice() {
-        Some("this language has no INT32; its types are INT and BYTE")
-    } else if word == b"INT64".as_slice() {
-        Some("this language has no INT64; its types are INT and BYTE")
-    } else {
-        None
-    }
+    [
+        lacked!("WHILE" "; a loop has a constant count: SEQ i = 0 FOR n"),
+        lacked!("CASE" "; write an IF whose choices are as x = 1"),
+        lacked!("PRI" "; write ALT or PAR"),
+        lacked!("PLACED" "; each processor has its own module"),
+        lacked!("BOOL" "; write INT, with 1 and 0"),
+        lacked!("TIMER" ", and knows no time"),
+        lacked!("PORT" "; channels alone lead out"),
+        lacked!("REAL32" "; its types are INT and BYTE"),
+        lacked!("REAL64" "; its types are INT and BYTE"),
+        lacked!("INT16" "; its types are INT and BYTE"),
+        lacked!("INT32" "; its types are INT and BYTE"),
+        lacked!("INT64" "; its types are INT and BYTE"),
+        lacked!("FUNCTION" "; write a PROC with a parameter for the result"),
+        lacked!("VALOF" "; write a PROC with a parameter for the result"),
+        lacked!("RESULT" "; write a PROC with a parameter for the result"),
+        lacked!("PROTOCOL" "; the messages of a channel are INT or BYTE"),
+        lacked!("RETYPES" "; INT x and BYTE x are conversions"),
+        lacked!("PLACE" "; the links are the parameters of main"),
+        lacked!("REM" "; write x \\ y"),
+        lacked!("SIZE" "; write the number, or a constant"),
+        lacked!("AFTER" "; write (x MINUS y) > 0"),
+        lacked!("FROM" "; write a SEQ over the elements"),
+        lacked!("BITAND" "; write x /\\ y"),
+        lacked!("BITOR" "; write x \\/ y"),
+        lacked!("BITNOT" "; write ~x"),
+    ]
 }
 
-/// What to write in place of a word of a declaration.
-fn declaration_hint(word: &[u8]) -> Option<&'static str>
-    ensures { option_map (λ h. h.now) result ≡ declaration_hint word.now }
+/// The row of a word, if it has one.
+fn row_for<'r, 's>(rows: &'r [(&'s str, &'s str)], word: &[u8]) -> Option<&'r (&'s str, &'s str)>
+    ensures { option_copied result ≡ find (λ r. bytes_eq word.now r.0.now) rows.now }
 {
-    if word == b"FUNCTION".as_slice() {
-        Some("this language has no FUNCTION; write a PROC with a parameter for the result")
-    } else if word == b"VALOF".as_slice() {
-        Some("this language has no VALOF; write a PROC with a parameter for the result")
-    } else if word == b"RESULT".as_slice() {
-        Some("this language has no RESULT; write a PROC with a parameter for the result")
-    } else if word == b"PROTOCOL".as_slice() {
-        Some("this language has no PROTOCOL; the messages of a channel are INT or BYTE")
-    } else if word == b"RETYPES".as_slice() {
-        Some("this language has no RETYPES; INT x and BYTE x are conversions")
-    } else if word == b"PLACE".as_slice() {
-        Some("this language has no PLACE; the links are the parameters of main")
-    } else {
-        None
-    }
-}
-
-/// What to write in place of a word between or before operands.
-fn operator_hint(word: &[u8]) -> Option<&'static str>
-    ensures { option_map (λ h. h.now) result ≡ operator_hint word.now }
-{
-    if word == b"REM".as_slice() {
-        Some("this language has no REM; write x \\ y")
-    } else if word == b"SIZE".as_slice() {
-        Some("this language has no SIZE; write the number, or a constant")
-    } else if word == b"AFTER".as_slice() {
-        Some("this language has no AFTER; write (x MINUS y) > 0")
-    } else if word == b"FROM".as_slice() {
-        Some("this language has no FROM; write a SEQ over the elements")
-    } else if word == b"BITAND".as_slice() {
-        Some("this language has no BITAND; write x /\\ y")
-    } else if word == b"BITOR".as_slice() {
-        Some("this language has no BITOR; write x \\/ y")
-    } else if word == b"BITNOT".as_slice() {
-        Some("this language has no BITNOT; write ~x")
-    } else {
-        None
-    }
+    rows.iter().find(|row| word == row.0.as_bytes())
 }
 
 /// What to write in place of a word, if this language lacks it.
-#[tactic(auto, unfolding(crate::specs::Hints::word_hint))]
 pub(crate) fn word_hint(word: &[u8]) -> Option<&'static str>
     ensures { option_map (λ h. h.now) result ≡ word_hint word.now }
 {
-    if let Some(hint) = construct_hint(word) {
-        return Some(hint);
-    }
-    if let Some(hint) = type_hint(word) {
-        return Some(hint);
-    }
-    match declaration_hint(word) {
-        Some(hint) => Some(hint),
-        None => operator_hint(word),
+    let rows = lacked_words();
+    match row_for(&rows, word) {
+        Some(row) => Some(row.1),
+        None => None,
     }
 }

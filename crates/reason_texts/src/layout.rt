@@ -3,12 +3,10 @@
 ghost use Rattle.std.specs.Prelude.{◌≡◌, ◌++◌, ◌≤◌, ◌<◌, ◌^◌, OnOk, IfOk, length, option_map, map, string_bytes};
 ghost use Rattle.source_reasons.specs.Lines.{line_found, sight_of};
 ghost use Rattle.source_reasons.specs.LayoutReasons.{place_of, layout_reason};
-ghost use Rattle.reason_texts.specs.LayoutTexts.{token_sentence, deep_sentence, token_text, sentence, token_hint};
-ghost use Rattle.reason_texts.specs.LayoutTexts.{byte_hint, hint};
-ghost use Rattle.reason_texts.specs.LayoutTexts.{len_of, byte_at, told_text, head_text, tail_text, whole_text};
-ghost use Rattle.reason_texts.specs.LayoutTexts.{source_text, layout_text};
+ghost use Rattle.reason_texts.specs.LayoutTexts.{len_of, token_sentence, deep_sentence, token_text, byte_at, sentence};
+ghost use Rattle.reason_texts.specs.LayoutTexts.{byte_hint, token_hint, hint, whole_text, source_text, layout_text};
 
-use crate::block::{Span, meant, push_block, push_hint, push_named, push_number, push_place};
+use crate::block::{Span, push_closed, push_number, push_place, push_rest};
 use occam_layout::LayoutFault;
 use source_reasons::{Above, BadToken, LayoutReason, TokenFault, find_line, layout_reason};
 use std::alloc::{AllocError, Global};
@@ -58,9 +56,10 @@ fn push_deep(text: &mut String, level: usize, above: Option<Above>) -> Result<()
 fn push_token(text: &mut String, line: &[u8], bad: BadToken) -> Result<(), AllocError>
     ensures { OnOk result (string_bytes text.new ≡ string_bytes text.old ++ token_text line.now bad) }
 {
-    text.push_str(token_sentence(bad.fault))?;
-    push_named(text, meant(line, bad.at, bad.len))?;
-    Ok(())
+    let BadToken { at, len, fault } = bad;
+    text.push_str(token_sentence(fault))?;
+    text.push_str(": `")?;
+    push_closed(text, line, Span { at, len })
 }
 
 /// Appends why a line has no tokens, or a source no lines.
@@ -158,50 +157,7 @@ fn place_of(reason: LayoutReason) -> usize
     }
 }
 
-/// Appends why a source is refused, and the number.
-#[tactic(auto, unfolding(crate::specs::LayoutTexts::told_text))]
-fn push_told(
-    text: &mut String,
-    number: u8,
-    line: &[u8],
-    reason: LayoutReason,
-) -> Result<(), AllocError>
-    ensures { OnOk result (string_bytes text.new ≡ string_bytes text.old ++ told_text number line.now reason) }
-{
-    push_sentence(text, line, reason)?;
-    push_number(text, number)?;
-    Ok(())
-}
-
-/// Appends where and why a line is refused.
-#[tactic(auto, unfolding(crate::specs::LayoutTexts::head_text))]
-fn push_head(
-    text: &mut String,
-    path: &str,
-    fault: LayoutFault,
-    line: &[u8],
-    reason: LayoutReason,
-) -> Result<(), AllocError>
-    requires { place_of reason ≤ length line.now }
-    ensures { OnOk result (string_bytes text.new ≡ string_bytes text.old ++ head_text path.now fault line.now reason) }
-{
-    push_place(text, path, fault.line, place_of(reason))?;
-    push_told(text, fault.number, line, reason)?;
-    Ok(())
-}
-
-/// Appends the line, and what to write in its place.
-#[tactic(auto, unfolding(crate::specs::LayoutTexts::tail_text))]
-fn push_tail(text: &mut String, line: &[u8], reason: LayoutReason) -> Result<(), AllocError>
-    ensures { OnOk result (string_bytes text.new ≡ string_bytes text.old ++ tail_text line.now reason) }
-{
-    let (at, len) = (place_of(reason), len_of(reason));
-    push_block(text, line, Span { at, len })?;
-    push_hint(text, hint(reason, byte_at(line, at)))?;
-    Ok(())
-}
-
-/// Appends why a line is refused.
+/// Appends where and why a line is refused, the line, and what to write in its place.
 #[tactic(auto, unfolding(crate::specs::LayoutTexts::whole_text))]
 fn push_whole(
     text: &mut String,
@@ -214,9 +170,11 @@ fn push_whole(
     ensures { OnOk result (string_bytes text.new
         ≡ string_bytes text.old ++ whole_text path.now fault line.now reason) }
 {
-    push_head(text, path, fault, line, reason)?;
-    push_tail(text, line, reason)?;
-    Ok(())
+    let (at, len) = (place_of(reason), len_of(reason));
+    let hint = hint(reason, byte_at(line, at));
+    push_place(text, path, fault.line, at)?;
+    push_sentence(text, line, reason)?;
+    push_rest(text, fault.number, line, Span { at, len }, hint)
 }
 
 /// Appends why a source without lines is refused.
@@ -230,8 +188,8 @@ fn push_source(
     ensures { OnOk result (string_bytes text.new ≡ string_bytes text.old ++ source_text path.now fault reason) }
 {
     write!(text, "{path}: ")?;
-    push_told(text, fault.number, b"", reason)?;
-    Ok(())
+    push_sentence(text, b"", reason)?;
+    push_number(text, fault.number)
 }
 
 /// What is written of a source that has no lines of tokens: the place, the reason, the line, and a hint. The path is

@@ -1,19 +1,17 @@
 //! What is written of lines that are no program.
 
 ghost use Rattle.std.specs.Prelude.{◌≡◌, ◌++◌, ◌<◌, ◌^◌, IfOk, OnOk, option_copied, option_map, string_bytes};
-ghost use Rattle.std.specs.List.{find};
 ghost use Rattle.occam_layout.specs.Kind.{spelling};
+ghost use Rattle.std.specs.List.{find};
 ghost use Rattle.source_reasons.specs.Lines.{line_found, sight_of};
-ghost use Rattle.reason_texts.specs.ParseTexts.{span_between, start_of, end_of};
-ghost use Rattle.reason_texts.specs.ParseTexts.{line_span, end_span, token_left, span_of};
-ghost use Rattle.reason_texts.specs.ParseTexts.{token_span, found_at, wanted_text, found_text, rest_text, stuck_text};
-ghost use Rattle.reason_texts.specs.ParseTexts.{sentence, operand_hint, shape_hint};
-ghost use Rattle.reason_texts.specs.ParseTexts.{action_hint, process_hint, colon_hint};
-ghost use Rattle.reason_texts.specs.ParseTexts.{parameter_hint, abbreviation_hint, was_wanted};
-ghost use Rattle.reason_texts.specs.ParseTexts.{wanted_hint, lack_hint, reason_hint, kind_hint, is_lacked, first_hint};
-ghost use Rattle.reason_texts.specs.ParseTexts.{hint, told_text, head_text, tail_text, whole_text, line_of, parse_text};
+ghost use Rattle.reason_texts.specs.ParseTexts.{span_between, start_of, end_of, line_span, end_span, token_left, span_of};
+ghost use Rattle.reason_texts.specs.ParseTexts.{found_at, wanted_words, wanted_quote, wanted_text, found_text};
+ghost use Rattle.reason_texts.specs.ParseTexts.{lack_text, stuck_text, sentence};
+ghost use Rattle.reason_texts.specs.ParseTexts.{operand_hint, shape_hint, action_hint, process_hint, abbreviation_hint};
+ghost use Rattle.reason_texts.specs.ParseTexts.{colon_hint, wanted_hint, lack_hint, reason_hint, kind_hint, is_lacked};
+ghost use Rattle.reason_texts.specs.ParseTexts.{hint, whole_text, line_of, parse_text};
 
-use crate::block::{Span, meant, push_block, push_closed, push_hint, push_number, push_place};
+use crate::block::{Span, push_closed, push_place, push_rest};
 use crate::hints::word_hint;
 use occam_layout::{Line, Mark, Token, TokenKind};
 use occam_parser::ParseFault;
@@ -77,17 +75,6 @@ fn token_left<'t, 'a>(left: usize, tokens: &'t [Token<'a>]) -> Option<&'t Token<
     tokens.get(tokens.len().saturating_sub(left))
 }
 
-/// The token from which on this number of tokens is left, or what follows the last one.
-fn token_span(offset: usize, tokens: &[Token<'_>], left: usize) -> Span
-    ensures token { result ≡ token_span offset tokens.now (token_left left tokens.now) }
-    ensures small { result.at < 2 ^ 32 }
-{
-    match token_left(left, tokens) {
-        Some(token) => span_between(offset, token.start, token.end),
-        None => end_span(offset, tokens),
-    }
-}
-
 /// The bytes that are meant, in a line that begins at an offset.
 #[tactic(auto, unfolding(crate::specs::ParseTexts::span_of))]
 fn span_of(offset: usize, tokens: &[Token<'_>], reason: ParseReason) -> Span
@@ -95,7 +82,10 @@ fn span_of(offset: usize, tokens: &[Token<'_>], reason: ParseReason) -> Span
     ensures small { result.at < 2 ^ 32 }
 {
     match reason {
-        ParseReason::Form { stuck, .. } => token_span(offset, tokens, stuck.left),
+        ParseReason::Form { stuck, .. } => match token_left(stuck.left, tokens) {
+            Some(token) => span_between(offset, token.start, token.end),
+            None => end_span(offset, tokens),
+        },
         ParseReason::MissingColon => end_span(offset, tokens),
         _ => line_span(offset, tokens),
     }
@@ -173,26 +163,40 @@ fn spelling(mark: Mark) -> &'static str
     }
 }
 
-/// Appends what may be at a place.
-#[tactic(auto, unfolding(crate::specs::ParseTexts::wanted_text))]
+/// What is wanted, in words: of a keyword or a sign how it is spelled.
+fn wanted_words(wanted: Wanted) -> &'static str
+    ensures { result.now ≡ wanted_words wanted }
+{
+    match wanted {
+        Wanted::Mark(mark) => spelling(mark),
+        Wanted::Name => "a name",
+        Wanted::Operand => "an operand",
+        Wanted::ValueType => "`INT` or `BYTE`",
+        Wanted::Shape => "`INT`, `BYTE` or `CHAN OF`",
+        Wanted::Table => "`[` or a string",
+        Wanted::Action => "`:=`, `?` or `!`",
+        Wanted::End => "the end of the line",
+        Wanted::Item => "`VAL` or `PROC`",
+        Wanted::Process => "a process",
+    }
+}
+
+/// What is before and after these words.
+fn wanted_quote(wanted: Wanted) -> &'static str
+    ensures { result.now ≡ wanted_quote wanted }
+{
+    match wanted {
+        Wanted::Mark(_) => "`",
+        _ => "",
+    }
+}
+
+/// Appends that this was wanted.
 fn push_wanted(text: &mut String, wanted: Wanted) -> Result<(), AllocError>
     ensures { OnOk result (string_bytes text.new ≡ string_bytes text.old ++ wanted_text wanted) }
 {
-    match wanted {
-        Wanted::Mark(mark) => {
-            let spelling = spelling(mark);
-            write!(text, "`{spelling}`")
-        }
-        Wanted::Name => text.push_str("a name"),
-        Wanted::Operand => text.push_str("an operand"),
-        Wanted::ValueType => text.push_str("`INT` or `BYTE`"),
-        Wanted::Shape => text.push_str("`INT`, `BYTE` or `CHAN OF`"),
-        Wanted::Table => text.push_str("`[` or a string"),
-        Wanted::Action => text.push_str("`:=`, `?` or `!`"),
-        Wanted::End => text.push_str("the end of the line"),
-        Wanted::Item => text.push_str("`VAL` or `PROC`"),
-        Wanted::Process => text.push_str("a process"),
-    }
+    let (quote, words) = (wanted_quote(wanted), wanted_words(wanted));
+    write!(text, ", but {quote}{words}{quote} was wanted")
 }
 
 /// Appends what is found at a place, or that the line ended.
@@ -209,31 +213,18 @@ fn push_found(
         None => text.push_str("the line ended"),
         Some(_) => {
             text.push_str("found `")?;
-            push_closed(text, meant(line, span.at, span.len))
+            push_closed(text, line, span)
         }
     }
 }
 
-/// Appends that this was wanted.
-#[tactic(auto, unfolding(crate::specs::ParseTexts::was_wanted))]
-fn push_was_wanted(text: &mut String, wanted: Wanted) -> Result<(), AllocError>
-    ensures { OnOk result (string_bytes text.new ≡ string_bytes text.old ++ was_wanted wanted) }
-{
-    push_wanted(text, wanted)?;
-    text.push_str(" was wanted")?;
-    Ok(())
-}
-
 /// Appends that something else is wanted at a place, or what else is wrong there.
-#[tactic(auto, unfolding(crate::specs::ParseTexts::rest_text))]
-fn push_rest(text: &mut String, lack: Lack) -> Result<(), AllocError>
-    ensures { OnOk result (string_bytes text.new ≡ string_bytes text.old ++ rest_text lack) }
+#[tactic(auto, unfolding(crate::specs::ParseTexts::lack_text))]
+fn push_lack(text: &mut String, lack: Lack) -> Result<(), AllocError>
+    ensures { OnOk result (string_bytes text.new ≡ string_bytes text.old ++ lack_text lack) }
 {
     match lack {
-        Lack::Token(wanted) => {
-            text.push_str(", but ")?;
-            push_was_wanted(text, wanted)
-        }
+        Lack::Token(wanted) => push_wanted(text, wanted),
         Lack::Nesting => text.push_str(
             ", but brackets, subscripts and conversions are nested at most 64 deep",
         ),
@@ -253,8 +244,7 @@ fn push_stuck(
     ensures { OnOk result (string_bytes text.new ≡ string_bytes text.old ++ stuck_text line.now span found.entry lack) }
 {
     push_found(text, line, span, found)?;
-    push_rest(text, lack)?;
-    Ok(())
+    push_lack(text, lack)
 }
 
 /// Appends why a line is no part of a program.
@@ -301,22 +291,15 @@ fn operand_hint(found: Option<TokenKind<'_>>) -> Option<&'static str>
     }
 }
 
-/// What to write where a name has no type.
-fn parameter_hint(form: Form) -> Option<&'static str>
-    ensures { option_map (λ h. h.now) result ≡ parameter_hint form }
-{
-    match form {
-        Form::Item => Some("each parameter has its own type, as (INT a, INT b)"),
-        _ => None,
-    }
-}
-
 /// What to write where a type, or `CHAN OF` a type, is wanted.
 fn shape_hint(form: Form, found: Option<TokenKind<'_>>) -> Option<&'static str>
     ensures { option_map (λ h. h.now) result ≡ shape_hint form found.entry }
 {
     match found {
-        Some(TokenKind::Name(_)) => parameter_hint(form),
+        Some(TokenKind::Name(_)) => match form {
+            Form::Item => Some("each parameter has its own type, as (INT a, INT b)"),
+            _ => None,
+        },
         Some(TokenKind::Mark(Mark::OpenBracket)) => Some(
             "an array has one size: the elements of [2 * 3]INT a are a[(i * 3) + j]",
         ),
@@ -447,17 +430,7 @@ fn first_lacked<'t, 'a>(tokens: &'t [Token<'a>]) -> Option<&'t Token<'a>>
     tokens.iter().find(|token| is_lacked(token))
 }
 
-/// What to write in place of the first such word.
-fn first_hint(tokens: &[Token<'_>]) -> Option<&'static str>
-    ensures { option_map (λ h. h.now) result ≡ first_hint (find is_lacked tokens.now) }
-{
-    match first_lacked(tokens) {
-        Some(token) => kind_hint(token.kind),
-        None => None,
-    }
-}
-
-/// What to write in place of a line.
+/// What to write in place of a line: of its first such word, else of its fault.
 #[tactic(auto, unfolding(crate::specs::ParseTexts::hint))]
 fn hint(
     tokens: &[Token<'_>],
@@ -466,67 +439,13 @@ fn hint(
 ) -> Option<&'static str>
     ensures { option_map (λ h. h.now) result ≡ hint tokens.now reason found.entry }
 {
-    match first_hint(tokens) {
-        Some(hint) => Some(hint),
+    match first_lacked(tokens) {
+        Some(token) => kind_hint(token.kind),
         None => reason_hint(reason, found),
     }
 }
 
-/// Appends why a line is refused, and the number.
-#[tactic(auto, unfolding(crate::specs::ParseTexts::told_text))]
-fn push_told(
-    text: &mut String,
-    number: u8,
-    line: &[u8],
-    span: Span,
-    found: Option<TokenKind<'_>>,
-    reason: ParseReason,
-) -> Result<(), AllocError>
-    ensures { OnOk result (string_bytes text.new
-        ≡ string_bytes text.old ++ told_text number line.now span found.entry reason) }
-{
-    push_sentence(text, line, span, found, reason)?;
-    push_number(text, number)?;
-    Ok(())
-}
-
-/// Appends where and why a line is refused.
-#[tactic(auto, unfolding(crate::specs::ParseTexts::head_text))]
-fn push_head(
-    text: &mut String,
-    path: &str,
-    fault: ParseFault,
-    line: &[u8],
-    span: Span,
-    found: Option<TokenKind<'_>>,
-    reason: ParseReason,
-) -> Result<(), AllocError>
-    requires { span.at < 2 ^ 32 }
-    ensures { OnOk result (string_bytes text.new
-        ≡ string_bytes text.old ++ head_text path.now fault line.now span found.entry reason) }
-{
-    push_place(text, path, fault.line, span.at)?;
-    push_told(text, fault.number, line, span, found, reason)?;
-    Ok(())
-}
-
-/// Appends the line, and what to write in its place.
-#[tactic(auto, unfolding(crate::specs::ParseTexts::tail_text))]
-fn push_tail(
-    text: &mut String,
-    line: &[u8],
-    span: Span,
-    hint: Option<&str>,
-) -> Result<(), AllocError>
-    ensures { OnOk result (string_bytes text.new
-        ≡ string_bytes text.old ++ tail_text line.now span (option_map (λ h. h.now) hint.entry)) }
-{
-    push_block(text, line, span)?;
-    push_hint(text, hint)?;
-    Ok(())
-}
-
-/// Appends why a line is refused.
+/// Appends where and why a line is refused, the line, and what to write in its place.
 #[tactic(auto, unfolding(crate::specs::ParseTexts::whole_text))]
 fn push_whole(
     text: &mut String,
@@ -542,9 +461,10 @@ fn push_whole(
         ≡ string_bytes text.old ++ whole_text path.now fault line.now span tokens.now reason) }
 {
     let found = found_at(tokens, reason);
-    push_head(text, path, fault, line, span, found, reason)?;
-    push_tail(text, line, span, hint(tokens, reason, found))?;
-    Ok(())
+    let hint = hint(tokens, reason, found);
+    push_place(text, path, fault.line, span.at)?;
+    push_sentence(text, line, span, found, reason)?;
+    push_rest(text, fault.number, line, span, hint)
 }
 
 /// The line with this number.

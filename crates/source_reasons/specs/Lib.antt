@@ -1,3 +1,4 @@
+pub mod Classes
 pub mod Lines
 pub mod Tokens
 pub mod LayoutReasons

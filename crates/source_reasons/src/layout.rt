@@ -1,14 +1,14 @@
 //! Why a source has no lines of tokens.
 
 ghost use Rattle.std.specs.Prelude.{◌≡◌, ◌<◌, ◌≤◌, ◌+◌, ◌^◌, ℕ, List, length, Err, IfSome};
-ghost use Rattle.std.specs.List.{prefix_len};
-ghost use Rattle.occam_layout.specs.Reading.{is_character, read};
+ghost use Rattle.occam_layout.specs.Reading.{read};
 ghost use Rattle.occam_layout.specs.declared.fault.LayoutFault.{LayoutFault};
 ghost use Rattle.source_reasons.specs.Lines.{line_found};
 ghost use Rattle.source_reasons.specs.LayoutReasons.{deepest_below, line_reason, layout_reason, Explains};
 ghost use Rattle.source_reasons.specs.LayoutReasons.{place_of, IsWithin};
 
-use crate::lines::{Above, find_line, is_blank, spaces_len};
+use crate::classes::{Class, front_len};
+use crate::lines::{Above, find_line, is_blank};
 use crate::tokens::{BadToken, bad_token};
 use occam_layout::{MAX_BYTES, MAX_LINES};
 
@@ -40,14 +40,6 @@ fn deepest_below(above: Option<Above>) -> usize
     }
 }
 
-/// How many bytes at the front are characters of a source.
-fn characters_len(bytes: &[u8]) -> usize
-    ensures len { result ≡ prefix_len is_character bytes.now }
-    ensures within { result ≤ length bytes.now }
-{
-    bytes.iter().take_while(|b| **b >= 32 && **b < 127).count()
-}
-
 /// Why a line has no tokens, if it is at fault. The line above it is the last one before it that has tokens.
 #[tactic(auto, unfolding(crate::specs::LayoutReasons::line_reason))]
 fn line_reason(above: Option<Above>, bytes: &[u8]) -> Option<LayoutReason>
@@ -56,11 +48,11 @@ fn line_reason(above: Option<Above>, bytes: &[u8]) -> Option<LayoutReason>
     ensures reason { result ≡ line_reason above bytes.now }
     ensures within { IfSome result (λ r. place_of r ≤ length bytes.now) }
 {
-    let characters = characters_len(bytes);
+    let characters = front_len(Class::Character, bytes);
     if characters < bytes.len() {
         return Some(LayoutReason::NoCharacter { at: characters });
     }
-    let indent = spaces_len(bytes);
+    let indent = front_len(Class::Space, bytes);
     let (_, body) = bytes.split_at(indent);
     if is_blank(body) {
         return None;

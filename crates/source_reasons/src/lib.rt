@@ -1,6 +1,7 @@
 //! Why a source is refused: a second call that goes again to the fault that was reported.
 #![tactic(auto)]
 
+mod classes;
 mod layout;
 mod lines;
 mod quotes;

@@ -1,10 +1,10 @@
 //! A line of a source, found by its number.
 
 ghost use Rattle.std.specs.Prelude.{◌≡◌, ◌<◌, ◌≤◌, ◌+◌, ◌∷◌, List, length, option_map, IfSome};
-ghost use Rattle.std.specs.List.{prefix_len};
-ghost use Rattle.occam_layout.specs.Reading.{is_blank, is_in_line, is_space, lines_of};
+ghost use Rattle.occam_layout.specs.Reading.{is_blank, lines_of};
 ghost use Rattle.source_reasons.specs.Lines.{line_found, above_after, sight_of};
 
+use crate::classes::{Class, front_len};
 use occam_layout::MAX_BYTES;
 
 /// A line before another one that has tokens.
@@ -27,27 +27,11 @@ pub struct SourceLine<'s> {
     pub above: Option<Above>,
 }
 
-/// How many spaces a line begins with.
-pub(crate) fn spaces_len(bytes: &[u8]) -> usize
-    ensures len { result ≡ prefix_len is_space bytes.now }
-    ensures within { result ≤ length bytes.now }
-{
-    bytes.iter().take_while(|b| **b == b' ').count()
-}
-
 /// Whether nothing but a comment is left of a line.
 pub(crate) fn is_blank(body: &[u8]) -> bool
     ensures { result ≡ is_blank body.now }
 {
     body.is_empty() || body.starts_with(b"--")
-}
-
-/// The number of bytes before the first line feed, or before the end.
-fn line_len(text: &[u8]) -> usize
-    ensures len { result ≡ prefix_len is_in_line text.now }
-    ensures within { result ≤ length text.now }
-{
-    text.iter().take_while(|b| **b != b'\n').count()
 }
 
 /// The first line of a text that isn't empty, and what follows the line feed that ends it.
@@ -58,7 +42,7 @@ fn first_line(text: &[u8]) -> (&[u8], &[u8])
     ensures shorter { length result.1.now < length text.now }
     ensures ended { 0 < length result.1.now → length result.0.now + 1 + length result.1.now ≡ length text.now }
 {
-    let len = line_len(text);
+    let len = front_len(Class::InLine, text);
     let (line, rest) = text.split_at(len);
     if rest.is_empty() {
         return (line, rest);
@@ -74,7 +58,7 @@ fn above_after(above: Option<Above>, line: u32, bytes: &[u8]) -> Option<Above>
     ensures above { result ≡ above_after above line bytes.now }
     ensures level { IfSome result (λ a. a.level ≤ 1048576) }
 {
-    let indent = spaces_len(bytes);
+    let indent = front_len(Class::Space, bytes);
     let (_, body) = bytes.split_at(indent);
     if is_blank(body) {
         return above;

@@ -1,13 +1,13 @@
 //! How long tokens are, and what is wrong where none begins.
 
 ghost use Rattle.std.specs.Prelude.{◌≡◌, ◌<◌, ◌≤◌, ◌+◌, ◌^◌, ◌∷◌, [], List, ℕ, length, IfOk, IfErr, IfSome, nat_lt};
-ghost use Rattle.std.specs.List.{prefix_len};
-ghost use Rattle.std.specs.Char.{is_ascii_digit, is_ascii_hexdigit, digit_value};
+ghost use Rattle.std.specs.Char.{digit_value};
 ghost use Rattle.occam_layout.specs.Kind.{is_sign};
-ghost use Rattle.occam_layout.specs.Reading.{is_name_byte, value};
+ghost use Rattle.occam_layout.specs.Reading.{value};
 ghost use Rattle.source_reasons.specs.Tokens.{decimal_len, hexadecimal_len, quoted, character_len, string_len};
 ghost use Rattle.source_reasons.specs.Tokens.{bad, sign_len, single_len, token_len, bad_token};
 
+use crate::classes::{Class, front_len};
 use crate::quotes::{body_len, characters_in};
 
 /// What is wrong where a token should begin.
@@ -45,33 +45,6 @@ fn bad(fault: TokenFault, at: usize, len: usize) -> BadToken
     BadToken { at, len, fault }
 }
 
-/// The number of bytes at the front that can be in a name.
-fn name_len(bytes: &[u8]) -> usize
-    ensures len { result ≡ prefix_len is_name_byte bytes.now }
-    ensures within { result ≤ length bytes.now }
-{
-    bytes
-        .iter()
-        .take_while(|b| b.is_ascii_alphanumeric() || **b == b'.')
-        .count()
-}
-
-/// How many bytes at the front are decimal digits.
-fn digits_len(bytes: &[u8]) -> usize
-    ensures len { result ≡ prefix_len is_ascii_digit bytes.now }
-    ensures within { result ≤ length bytes.now }
-{
-    bytes.iter().take_while(|b| b.is_ascii_digit()).count()
-}
-
-/// How many bytes at the front are hexadecimal digits.
-fn hexadecimal_digits_len(bytes: &[u8]) -> usize
-    ensures len { result ≡ prefix_len is_ascii_hexdigit bytes.now }
-    ensures within { result ≤ length bytes.now }
-{
-    bytes.iter().take_while(|b| b.is_ascii_hexdigit()).count()
-}
-
 /// The value of a digit, a letter from 10 on, and 36 for what is neither.
 fn digit_value(digit: u8) -> u8
     ensures value { result ≡ digit_value digit }
@@ -105,7 +78,7 @@ fn decimal_len(bytes: &[u8]) -> Result<usize, BadToken>
     ensures place { IfErr result (λ b. b.at ≤ length bytes.now) }
     ensures within { IfOk result (λ n. n ≤ length bytes.now) }
 {
-    let len = digits_len(bytes);
+    let len = front_len(Class::Digit, bytes);
     let (digits, _) = bytes.split_at(len);
     if is_int(digits) {
         Ok(len)
@@ -120,7 +93,7 @@ fn hexadecimal_len(bytes: &[u8]) -> Result<usize, BadToken>
     ensures place { IfErr result (λ b. b.at ≤ length bytes.now + 1) }
     ensures within { IfOk result (λ n. n ≤ length bytes.now + 1) }
 {
-    let count = hexadecimal_digits_len(bytes);
+    let count = front_len(Class::HexadecimalDigit, bytes);
     if count == 0 || count > 8 {
         return Err(bad(TokenFault::HexadecimalDigits(count), 0, count + 1));
     }
@@ -239,7 +212,7 @@ pub(crate) fn token_len(bytes: &[u8]) -> Result<usize, BadToken>
 {
     let (first, rest) = bytes.split_first().ok_or(bad(TokenFault::NoToken, 0, 1))?;
     if first.is_ascii_alphabetic() {
-        return Ok(name_len(bytes));
+        return Ok(front_len(Class::InName, bytes));
     }
     if first.is_ascii_digit() {
         return decimal_len(bytes);

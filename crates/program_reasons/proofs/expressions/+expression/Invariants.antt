@@ -15,9 +15,6 @@ decreases-past_chain l = 6 * l.levels + 3
 abbrev pub decreases-past_operand : goal.decreases-past_operand
 decreases-past_operand l = 6 * l.levels + 2
 
-abbrev pub decreases-past_marked : goal.decreases-past_marked
-decreases-past_marked l = 6 * l.levels + 1
-
 abbrev pub decreases-past_within : goal.decreases-past_within
 decreases-past_within l = 6 * l.levels
 

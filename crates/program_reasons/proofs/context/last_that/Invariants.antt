@@ -1,14 +1,13 @@
 use Rattle.std.proofs.Common.{◌≡◌, ◌≤◌, length}
-use Rattle.std.specs.Prelude.{nat_le}
 use Rattle.occam_parser.specs.Blocks.{rows_of}
-use Rattle.program_reasons.specs.Contexts.{last_that}
+use Rattle.program_reasons.specs.Contexts.{is_sought, last_that}
 use Rattle.program_reasons.proofs.LinesAbove.{last_left, left_len}
-use Rattle.program_reasons.proofs.context.last_up_to.Given as goal
+use Rattle.program_reasons.proofs.context.last_that.Given as goal
 
 abbrev pub invariant-loop-next : goal.invariant-loop-next
 invariant-loop-next l = record {
   within : left_len l.next ≤ length l.lines;
-  so_far : last_left (λ r. nat_le r.level l.level) l.next ≡ last_that (λ r. nat_le r.level l.level) (rows_of l.lines);
+  so_far : last_left (is_sought l.sought) l.next ≡ last_that (is_sought l.sought) (rows_of l.lines);
 }
 
 abbrev pub decreases-loop-next : goal.decreases-loop-next
