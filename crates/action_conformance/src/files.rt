@@ -72,13 +72,12 @@ impl<'f> Files for CaseFiles<'f> {
 
     type Writer = CaseWriter<'f>;
 
-    ghost reads = { λ before path extent bytes after. ⊤ };
-
-    ghost opens = { λ before path reader after. ⊤ };
-
-    ghost creates = { λ before path writer after. ⊤ };
-
-    ghost closes = { λ before writer closed after. ⊤ };
+    ghost calls = { record {
+      reads = λ before path extent bytes after. ⊤;
+      opens = λ before path reader after. ⊤;
+      creates = λ before path writer after. ⊤;
+      closes = λ before writer closed after. ⊤;
+    } };
 
     fn read(&mut self, path: &str, extent: Extent) -> Result<Vec<u8>, FileFault> {
         self.folder.beginning(self.alloc, path, extent)

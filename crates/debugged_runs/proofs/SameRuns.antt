@@ -17,6 +17,7 @@ use Rattle.link_runner.specs.Readers.{at_link}
 use Rattle.link_runner.specs.Runs.{ComesToEnd, Finishes, FinishesWith, Has}
 use Rattle.link_runner.specs.Writers.{writers_of}
 use Rattle.link_runner.proofs.AllBytes.{knows_all}
+use Rattle.link_runner.proofs.WholeRun.{finishes}
 use Rattle.machine.specs.Bounding.{BoundedExecution, Shows}
 use Rattle.tpm_actions.specs.declared.debugging.Ending.TheVariants as endings
 use Rattle.tpm_actions.specs.declared.files.FileFault.{FileFault}
@@ -26,6 +27,7 @@ use Rattle.tpm_actions.specs.FilesOnLinks.{RunsWithCreated}
 use Rattle.tpm_actions.specs.RunTexts.{debug_text}
 use Rattle.tpm_actions.specs.Texts.{counts_text, ending_of, report_text, run_text}
 use Rattle.debugged_runs.specs.DebuggedRuns.{OverIsRun, DebugAgreesWithRun, FilesOfRun, Debugs}
+use Rattle.tpm_actions.specs.Storage.{Storage}
 
 -- ---- which links have writers
 
@@ -80,15 +82,9 @@ module _ {R W : Type 0} (left : R → Option (List ℕ)) (read_failed : R → Bo
   -- and so it is one that `run` finishes with
   pub finished : Finishes left read_failed written write_failed m readers readers_after writers writers_after
       (report_at machine.world tally)
-  finished = record {
-    moment = ends.moment;
-    reads = ends.comes.reads;
-    writes = ends.comes.writes;
-    over = ends.over;
-    reported = reported;
-    no_read_failed = ends.comes.no_read_failed;
-    no_write_failed = ends.comes.no_write_failed;
-  }
+  finished =
+      finishes left read_failed written write_failed m readers readers_after writers writers_after tally (Shows machine)
+      (report_at machine.world tally) ends reported
 
   -- and where all bytes are known, the run over all of them finishes so
   pub finished_with : (inputs : ByLink Supply) → ((link : Link)
@@ -110,30 +106,30 @@ told_so inputs outputs report waits =
     sym (append_assoc first (10 ∷ [] ++ (ins ++ outs)) waits
     ∙ ap (λ (text : Text). first ++ (10 ∷ [] ++ text)) (append_assoc ins outs waits))
 
-module _ {F R W : Type 0} (creates : F → Text → Result W FileFault → F → Type 0) (left : R → Option (List ℕ))
-    (read_failed : R → Bool) (written : W → Option (List ℕ)) (write_failed : W → Bool) where
+module _ {F R W : Type 0} (storage : Storage F R W) where
   -- the files were created, and the run was one
   ran_so : (m : Contents) (outputs : OnLinks (Option Text)) (files : FilesOfRun F R W) (machine : BoundedExecution)
-      (tally : Tally) → Debugs creates left read_failed written write_failed m outputs files machine tally
-      → RunsWithCreated creates left read_failed written write_failed m outputs files.before files.after files.readers
-      files.readers_after files.writers_after (Ok (report_at machine.world tally))
+      (tally : Tally) → Debugs storage m outputs files machine tally
+      → RunsWithCreated storage m outputs files.before files.after files.readers files.readers_after files.writers_after
+      (Ok (report_at machine.world tally))
   ran_so m outputs files machine tally debugged = record {
     writers = debugged.writers;
     creates_all = debugged.creates_all;
-    runs = finished left read_failed written write_failed m files.readers files.readers_after debugged.writers
-        files.writers_after machine tally debugged.drives;
-    known = finished_with left read_failed written write_failed m files.readers files.readers_after debugged.writers
-        files.writers_after machine tally debugged.drives;
+    runs = finished storage.left storage.read_failed storage.written storage.write_failed m files.readers
+        files.readers_after debugged.writers files.writers_after machine tally debugged.drives;
+    known = finished_with storage.left storage.read_failed storage.written storage.write_failed m files.readers
+        files.readers_after debugged.writers files.writers_after machine tally debugged.drives;
   }
 
-  pub debug_agrees_with_run : DebugAgreesWithRun creates left read_failed written write_failed
+  pub debug_agrees_with_run : DebugAgreesWithRun storage
   debug_agrees_with_run m outputs debug run machine tally report all debugged ran debug_has run_has =
-      let here = finished_with left read_failed written write_failed m debug.readers debug.readers_after
-      debugged.writers debug.writers_after machine tally debugged.drives all debug_has in
+      let here = finished_with storage.left storage.read_failed storage.written storage.write_failed m debug.readers
+      debug.readers_after debugged.writers debug.writers_after machine tally debugged.drives all debug_has in
       let there = ran.known all run_has in
       let same_writers : writers_of ran.writers ≡ writers_of debugged.writers =
-      created_there creates run.before run.after outputs ran.writers ran.creates_all
-      ∙ sym (created_there creates debug.before debug.after outputs debugged.writers debugged.creates_all) in
+      created_there storage.calls.creates run.before run.after outputs ran.writers ran.creates_all
+      ∙ sym (created_there storage.calls.creates debug.before debug.after outputs debugged.writers debugged.creates_all)
+      in
       let same : here.moment ≡ there.moment = one_last m all (writers_of debugged.writers) here.turns there.turns
       here.moment there.moment here.run here.over
       (subst (λ (flags : ByLink Bool). IsRun m all flags there.turns there.moment) same_writers there.run)
@@ -148,11 +144,8 @@ module _ {F R W : Type 0} (creates : F → Text → Result W FileFault → F →
         run_keeps = there.unread;
       }
 
-module _ {F R W : Type 0} (opens : F → Text → Result R FileFault → F → Type 0)
-    (creates : F → Text → Result W FileFault → F → Type 0) (closes : F → W → Bool → F → Type 0)
-    (left : R → Option (List ℕ)) (read_failed : R → Bool) (written : W → Option (List ℕ))
-    (write_failed : W → Bool) where
-  pub over_is_run : OverIsRun opens creates closes left read_failed written write_failed
+module _ {F R W : Type 0} (storage : Storage F R W) where
+  pub over_is_run : OverIsRun storage
   over_is_run m inputs outputs bytes before after lines text debugged =
       let machine = debugged.machine in
       let tally = debugged.tally in
@@ -169,7 +162,7 @@ module _ {F R W : Type 0} (opens : F → Text → Result R FileFault → F → T
                 readers_after = driven.readers_after;
                 writers_after = driven.writers_after;
                 ran = driven.ran;
-                runs = ran_so creates left read_failed written write_failed m outputs (record {
+                runs = ran_so storage m outputs (record {
                   before = debugged.drives.opened;
                   after = driven.ran;
                   readers = debugged.drives.readers;

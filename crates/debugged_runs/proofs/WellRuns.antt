@@ -1,6 +1,6 @@
 -- A module that runs well, on the machine that checks each rule.
 use Rattle.std.proofs.Common.{◌≡◌, ◌<◌, ◌≤◌, ℕ, Bool, true, if◌then◌else◌, List, [], ◌∷◌, ◌++◌}
-use Rattle.std.proofs.Common.{Option, Some, None, Result, refl, sym, ap, subst, ◌∙◌, arith, inl, inr}
+use Rattle.std.proofs.Common.{Option, Some, None, refl, sym, ap, subst, ◌∙◌, arith, inl, inr}
 use Rattle.std.proofs.Common.{min, option_and_then, unwrap_or}
 use Rattle.std.proofs.lemmas.Bool.{cases_lt}
 use Rattle.std.proofs.lemmas.Grind.{not_there}
@@ -33,12 +33,12 @@ use Rattle.command_line.specs.Words.{Text}
 use Rattle.command_line.specs.Fitting.{number_in}
 use Rattle.command_line.specs.declared.links.OnLinks.{OnLinks}
 use Rattle.tpm_actions.specs.declared.debugging.Ending.TheVariants as endings
-use Rattle.tpm_actions.specs.declared.files.FileFault.{FileFault}
 use Rattle.tpm_actions.specs.Debugging.{limit_of}
 use Rattle.tpm_actions.specs.Programs.{EndsAs, IsProgramOf, LinedModule, is_module, is_source}
 use Rattle.debugged_runs.specs.DebuggedRuns.{NeverFaults, RunsWellIfModule, TellsNoFault, IsCutBelowBudget}
 use Rattle.debugged_runs.specs.DebuggedRuns.{AsksForLess, IsCutAsAsked}
 use Rattle.debugged_runs.proofs.Running.{still_runs}
+use Rattle.tpm_actions.specs.Storage.{Storage}
 
 -- ---- where a machine has stopped of itself
 
@@ -142,21 +142,18 @@ is_asked m bytes (Some number) is below = record { number = number; asked = is; 
 
 -- ---- what is told of a run
 
-module _ {F R W : Type 0} (opens : F → Text → Result R FileFault → F → Type 0)
-    (creates : F → Text → Result W FileFault → F → Type 0) (closes : F → W → Bool → F → Type 0)
-    (left : R → Option (List ℕ)) (read_failed : R → Bool) (written : W → Option (List ℕ))
-    (write_failed : W → Bool) where
-  pub never_faults : NeverFaults opens creates closes left read_failed written write_failed
+module _ {F R W : Type 0} (storage : Storage F R W) where
+  pub never_faults : NeverFaults storage
   never_faults m inputs outputs bytes before after lines fault text well debugged =
       let stops = debugged.drives.drives.1.0.drives.drives in
-      never_stops_at_fault left m _ _ _ stops.moment stops.comes.reads debugged.machine well fault stops.comes.is_shown
+      never_stops_at_fault storage.left m _ _ _ stops.moment stops.comes.reads debugged.machine well fault
+      stops.comes.is_shown
 
   -- a source is compiled to a certified module
   no_fault_in : (m : LinedModule) (bytes : List ℕ) (inputs outputs : OnLinks (Option Text)) (limit : Option Text)
       (before after : F) (fault : Fault) (text : Text)
-      → RunsWellIfModule opens creates closes left read_failed written write_failed bytes → IsProgramOf bytes m
-      → EndsAs opens creates closes left read_failed written write_failed inputs outputs limit before after m
-      (endings.Faulted fault) text
+      → RunsWellIfModule storage bytes → IsProgramOf bytes m
+      → EndsAs storage inputs outputs limit before after m (endings.Faulted fault) text
       → ⊥
   no_fault_in m bytes inputs outputs limit before after fault text sound (is_module begins format none) ends =
       never_faults m.contents inputs outputs limit before after m.lines fault text (sound begins m.contents format) ends
@@ -167,16 +164,16 @@ module _ {F R W : Type 0} (opens : F → Text → Result R FileFault → F → T
       never_faults m.contents inputs outputs limit before after m.lines fault text
       ∣ subst RunsWell same found.certifies.runs_well ∣₁ ends
 
-  pub tells_no_fault : TellsNoFault opens creates closes left read_failed written write_failed
+  pub tells_no_fault : TellsNoFault storage
   tells_no_fault bytes inputs outputs limit before after fault text sound told =
       no_fault_in told.lined bytes inputs outputs limit before after fault text sound told.program told.holds
 
-  pub is_cut_below_budget : IsCutBelowBudget opens creates closes left read_failed written write_failed
+  pub is_cut_below_budget : IsCutBelowBudget storage
   is_cut_below_budget m inputs outputs bytes before after lines text well debugged =
       let stops = debugged.drives.drives.1.0.drives.drives in
-      stops_below_budget left m _ _ _ stops.moment stops.comes.reads debugged.machine well stops.comes.is_shown
+      stops_below_budget storage.left m _ _ _ stops.moment stops.comes.reads debugged.machine well stops.comes.is_shown
 
-  pub is_cut_as_asked : IsCutAsAsked opens creates closes left read_failed written write_failed
+  pub is_cut_as_asked : IsCutAsAsked storage
   is_cut_as_asked m inputs outputs bytes before after lines text file format well debugged =
       let below = is_cut_below_budget m inputs outputs bytes before after lines text well debugged in
       is_asked m bytes (option_and_then number_in bytes) refl (is_below (limit_of m bytes) m.budget

@@ -1,11 +1,9 @@
 -- What was performed, as what the program did.
-use Rattle.std.proofs.Common.{◌≡◌, ℕ, Bool, List, Option, Some, Result, Ok, Err, ◌⊎◌, inl, inr, refl}
+use Rattle.std.proofs.Common.{◌≡◌, ℕ, List, Option, Some, Result, Ok, Err, ◌⊎◌, inl, inr, refl}
 use Rattle.std.specs.Prelude.{string_bytes}
 use Rattle.std.specs.Borrow.{Bor}
 use Rattle.command_line.specs.Words.{Text}
 use Rattle.tpm_actions.specs.declared.report.RefusedFor.{RefusedFor}
-use Rattle.tpm_actions.specs.declared.extent.Extent.{Extent}
-use Rattle.tpm_actions.specs.declared.files.FileFault.{FileFault}
 use Rattle.tpm_actions.specs.Extents.{extent_of}
 use Rattle.tpm_actions.specs.declared.files.FileFault.TheVariants as file_faults
 use Rattle.tpm_actions.specs.declared.report.Failure.{Failure}
@@ -20,23 +18,19 @@ use Rattle.tpm_actions.specs.Acting.{starved_by_file, starved_by_text, report_in
 use Rattle.tpm_actions.specs.Acting.{fault_in_part}
 use Rattle.tpm_actions.specs.Streams.{shown_of}
 use Rattle.machine_state.specs.declared.fault.Fault.{Fault}
+use Rattle.tpm_actions.specs.Storage.{Storage}
 
-module _ {F R W : Type 0} (opens : F → Text → Result R FileFault → F → Type 0)
-    (creates : F → Text → Result W FileFault → F → Type 0) (closes : F → W → Bool → F → Type 0)
-    (left : R → Option (List ℕ)) (read_failed : R → Bool) (written : W → Option (List ℕ))
-    (write_failed : W → Bool) (reads : F → List ℕ → Extent → Result (List ℕ) FileFault → F → Type 0) (words : List Text)
-    (asked : Asked) (before after : F) (out_before out_after : Option (List ℕ)) where
+module _ {F R W : Type 0} (storage : Storage F R W) (words : List Text) (asked : Asked) (before after : F)
+    (out_before out_after : Option (List ℕ)) where
   pub acts_told : line_of words ≡ Some asked → (u : Unit {0})
-      → Performs opens creates closes left read_failed written write_failed reads asked before after out_before
-      out_after
-      (Ok u)
-      → Acts opens creates closes left read_failed written write_failed reads words before after out_before out_after 0
+      → Performs storage asked before after out_before out_after (Ok u)
+      → Acts storage words before after out_before out_after 0
   acts_told line u performed = told asked performed.0 line performed.1 performed.2 refl
 
   -- a file of which this holds is one of which that holds
   read_so : {P Q : List ℕ → F → Type 0} → ((bytes : List ℕ) (next : F) → P bytes next → Q bytes next)
-      → Reads opens creates closes left read_failed written write_failed reads asked before P
-      → Reads opens creates closes left read_failed written write_failed reads asked before Q
+      → Reads storage asked before P
+      → Reads storage asked before Q
   read_so implies file = record {
     bytes = file.bytes;
     next = file.next;
@@ -46,45 +40,37 @@ module _ {F R W : Type 0} (opens : F → Text → Result R FileFault → F → T
 
   -- memory ran out once the file was read
   starved : (status : ℕ) → status ≡ 4 → line_of words ≡ Some asked → out_after ≡ out_before
-      → Hinders opens creates closes left read_failed written write_failed reads asked before after failures.Memory
-      → Acts opens creates closes left read_failed written write_failed reads words before after out_before out_after
-      status
+      → Hinders storage asked before after failures.Memory
+      → Acts storage words before after out_before out_after status
   starved status is line same file = go file.holds
     where
-      go : IsStopped opens creates closes left read_failed written write_failed file.bytes asked file.next after
-          failures.Memory
-          ⊎ IsUntold opens creates closes left read_failed written write_failed file.bytes asked file.next after
-          → Acts opens creates closes left read_failed written write_failed reads words before after out_before
-          out_after status
+      go : IsStopped storage file.bytes asked file.next after failures.Memory
+          ⊎ IsUntold storage file.bytes asked file.next after
+          → Acts storage words before after out_before out_after status
       go (inl stops) = stopped asked failures.Memory line
           (record { bytes = file.bytes; next = file.next; read = file.read; holds = stops }) same is
       go (inr done) = starved_by_text asked line
           (record { bytes = file.bytes; next = file.next; read = file.read; holds = done }) same is
 
   starved_at : (status : ℕ) → status ≡ 4 → line_of words ≡ Some asked → out_after ≡ out_before
-      → reads before (path_of asked) (extent_of asked) (Err file_faults.Memory) after
-      ⊎ Hinders opens creates closes left read_failed written write_failed reads asked before after failures.Memory
-      → Acts opens creates closes left read_failed written write_failed reads words before after out_before out_after
-      status
+      → storage.calls.reads before (path_of asked) (extent_of asked) (Err file_faults.Memory) after
+      ⊎ Hinders storage asked before after failures.Memory
+      → Acts storage words before after out_before out_after status
   starved_at status is line same (inl file) = starved_by_file asked line file same is
   starved_at status is line same (inr file) = starved status is line same file
 
   -- the module file, or that of a link, was not read
   unread_at : (path : Bor Text) (status : ℕ) → status ≡ 3 → line_of words ≡ Some asked → out_after ≡ out_before
-      → ((path.now ≡ path_of asked) × reads before (path_of asked) (extent_of asked) (Err file_faults.Failed) after)
-      ⊎ Hinders opens creates closes left read_failed written write_failed reads asked before after
-      (failures.Unread path)
-      → Acts opens creates closes left read_failed written write_failed reads words before after out_before out_after
-      status
+      → ((path.now ≡ path_of asked) × storage.calls.reads before (path_of asked) (extent_of asked)
+      (Err file_faults.Failed) after)
+      ⊎ Hinders storage asked before after (failures.Unread path)
+      → Acts storage words before after out_before out_after status
   unread_at path status is line same (inl file) = unread asked line file.1 same is
   unread_at path status is line same (inr file) = stopped asked (failures.Unread path) line file same is
 
   pub acts_failed : (failure : Failure) (status : ℕ) → status ≡ status_of failure → line_of words ≡ Some asked
-      → Performs opens creates closes left read_failed written write_failed reads asked before after out_before
-      out_after
-      (Err failure)
-      → Acts opens creates closes left read_failed written write_failed reads words before after out_before out_after
-      status
+      → Performs storage asked before after out_before out_after (Err failure)
+      → Acts storage words before after out_before out_after status
   acts_failed (failures.Malformed fault) status is line performed =
       refused asked line (read_so (λ bytes next why. (malformed fault why.0, why.1)) performed.0) performed.1 is
   acts_failed (failures.Uncertified refusal) status is line performed =
@@ -111,11 +97,9 @@ module _ {F R W : Type 0} (opens : F → Text → Result R FileFault → F → T
   -- a text was not written to its end
   told_in_part : (text : Text) (failure : Failure)
       → (HoldsBeginning out_before out_after text
-      → IsToldInPart opens creates closes left read_failed written write_failed reads asked before after out_before
-      out_after)
+      → IsToldInPart storage asked before after out_before out_after)
       → Tells out_before out_after text (Err failure)
-      → Performs opens creates closes left read_failed written write_failed reads asked before after out_before
-      out_after (Err failure)
+      → Performs storage asked before after out_before out_after (Err failure)
   told_in_part text (failures.Malformed fault) part tells = absurd tells
   told_in_part text (failures.Uncertified refused_for) part tells = absurd tells
   told_in_part text (failures.Explained refused_for told_by) part tells = absurd tells
@@ -131,31 +115,25 @@ module _ {F R W : Type 0} (opens : F → Text → Result R FileFault → F → T
 
   -- the text that explains a refusal
   pub explained_in_part : (refusal : RefusedFor) (text : Text) (failure : Failure)
-      → Reads opens creates closes left read_failed written write_failed reads asked before
-      (λ bytes next. IsRefusedWith bytes asked refusal text × (after ≡ next))
+      → Reads storage asked before (λ bytes next. IsRefusedWith bytes asked refusal text × (after ≡ next))
       → Tells out_before out_after text (Err failure)
-      → Performs opens creates closes left read_failed written write_failed reads asked before after out_before
-      out_after (Err failure)
+      → Performs storage asked before after out_before out_after (Err failure)
   explained_in_part refusal text failure file =
       told_in_part text failure (λ beginning. explanation_in_part text (refusal, file) beginning)
 
   -- the text of a run that was brought to a fault
   pub faulted_in_part : (fault : Fault) (text : Text) (failure : Failure)
-      → Reads opens creates closes left read_failed written write_failed reads asked before
-      (λ bytes next. IsFaulted opens creates closes left read_failed written write_failed bytes asked fault next after
-      text)
+      → Reads storage asked before (λ bytes next. IsFaulted storage bytes asked fault next after text)
       → Tells out_before out_after (shown_of asked text) (Err failure)
-      → Performs opens creates closes left read_failed written write_failed reads asked before after out_before
-      out_after (Err failure)
+      → Performs storage asked before after out_before out_after (Err failure)
   faulted_in_part fault text failure file =
       told_in_part (shown_of asked text) failure (λ beginning. fault_in_part text (fault, file) beginning)
 
   -- what was done to report
   pub reported : (text : Text) (result : Result (Unit {0}) Failure)
-      → Answers opens creates closes left read_failed written write_failed reads asked before after (Ok text)
+      → Answers storage asked before after (Ok text)
       → Tells out_before out_after (shown_of asked text) result
-      → Performs opens creates closes left read_failed written write_failed reads asked before after out_before
-      out_after result
+      → Performs storage asked before after out_before out_after result
   reported text (Ok u) answers tells = (text, answers, tells)
   reported text (Err failure) answers tells =
       told_in_part (shown_of asked text) failure (λ beginning. report_in_part text answers beginning) tells

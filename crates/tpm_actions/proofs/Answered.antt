@@ -1,28 +1,23 @@
 -- What is reported about a file that was read, as the answer of the program.
-use Rattle.std.proofs.Common.{ℕ, Bool, List, Option, Result, Ok, Err, MatchResult, inr}
+use Rattle.std.proofs.Common.{ℕ, List, Result, Ok, Err, MatchResult, inr}
 use Rattle.command_line.specs.Words.{Text}
-use Rattle.tpm_actions.specs.declared.extent.Extent.{Extent}
-use Rattle.tpm_actions.specs.declared.files.FileFault.{FileFault}
 use Rattle.tpm_actions.specs.Extents.{extent_of}
 use Rattle.tpm_actions.specs.declared.report.Failure.{Failure}
 use Rattle.tpm_actions.specs.declared.report.Failure.TheVariants as failures
 use Rattle.command_line.specs.Asked.{Asked, path_of}
 use Rattle.tpm_actions.specs.Acting.{Answers, Hinders, IsTold, IsHindered}
+use Rattle.tpm_actions.specs.Storage.{Storage}
 
-module _ {F R W : Type 0} (opens : F → Text → Result R FileFault → F → Type 0)
-    (creates : F → Text → Result W FileFault → F → Type 0) (closes : F → W → Bool → F → Type 0)
-    (left : R → Option (List ℕ)) (read_failed : R → Bool) (written : W → Option (List ℕ))
-    (write_failed : W → Bool) (reads : F → List ℕ → Extent → Result (List ℕ) FileFault → F → Type 0) (asked : Asked)
-    (bytes : List ℕ) (before next after : F)
-    (read : reads before (path_of asked) (extent_of asked) (Ok bytes) next) where
+module _ {F R W : Type 0} (storage : Storage F R W) (asked : Asked) (bytes : List ℕ) (before next after : F)
+    (read : storage.calls.reads before (path_of asked) (extent_of asked) (Ok bytes) next) where
   hinders : (failure : Failure)
-      → IsHindered opens creates closes left read_failed written write_failed bytes asked next after failure
-      → Hinders opens creates closes left read_failed written write_failed reads asked before after failure
+      → IsHindered storage bytes asked next after failure
+      → Hinders storage asked before after failure
   hinders failure why = record { bytes = bytes; next = next; read = read; holds = why }
 
   hindered : (failure : Failure)
-      → IsHindered opens creates closes left read_failed written write_failed bytes asked next after failure
-      → Answers opens creates closes left read_failed written write_failed reads asked before after (Err failure)
+      → IsHindered storage bytes asked next after failure
+      → Answers storage asked before after (Err failure)
   hindered (failures.Malformed fault) why = hinders (failures.Malformed fault) why
   hindered (failures.Uncertified refusal) why = hinders (failures.Uncertified refusal) why
   hindered (failures.Explained refusal text) why = hinders (failures.Explained refusal text) why
@@ -39,12 +34,12 @@ module _ {F R W : Type 0} (opens : F → Text → Result R FileFault → F → T
   -- the answer where the file was read
   pub answered : {S : Type 0} (text_of : S → Text) (result : Result S Failure)
       → MatchResult result
-      (λ text. IsTold opens creates closes left read_failed written write_failed bytes asked next after (text_of text))
-      (IsHindered opens creates closes left read_failed written write_failed bytes asked next after)
+      (λ text. IsTold storage bytes asked next after (text_of text))
+      (IsHindered storage bytes asked next after)
       → MatchResult result
-      (λ text. Answers opens creates closes left read_failed written write_failed reads asked before after
+      (λ text. Answers storage asked before after
       (Ok (text_of text)))
-      (λ failure. Answers opens creates closes left read_failed written write_failed reads asked before after
+      (λ failure. Answers storage asked before after
       (Err failure))
   answered text_of (Ok text) told = record { bytes = bytes; next = next; read = read; holds = told }
   answered text_of (Err failure) why = hindered failure why

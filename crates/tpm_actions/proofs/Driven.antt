@@ -1,5 +1,5 @@
 -- What became of a run on the machine that checks each rule, from its parts.
-use Rattle.std.proofs.Common.{◌≡◌, ℕ, Bool, true, false, List, Option, Result, Ok, Err, IfOk, inl, ◌∙◌}
+use Rattle.std.proofs.Common.{Bool, List, Option, Result, Ok, Err, IfOk, inl, ◌∙◌}
 use Rattle.command_line.specs.declared.links.OnLinks.{OnLinks}
 use Rattle.command_line.specs.Words.{Text}
 use Rattle.module_format.specs.Contents.{Contents}
@@ -7,25 +7,22 @@ use Rattle.link_runs.specs.ByLink.{ByLink}
 use Rattle.link_runner.specs.declared.tally.Tally.{Tally}
 use Rattle.machine.specs.Asking.{Execution}
 use Rattle.machine.specs.Bounding.{BoundedExecution}
-use Rattle.waiting_texts.specs.Resting.{IsKnownIf, IsWorldOf}
+use Rattle.waiting_texts.specs.Resting.{IsKnownIf}
 use Rattle.tpm_actions.specs.declared.debugging.Ending.{Ending}
 use Rattle.tpm_actions.specs.declared.debugging.Ending.TheVariants as endings
-use Rattle.tpm_actions.specs.declared.files.FileFault.{FileFault}
 use Rattle.tpm_actions.specs.declared.report.Failure.{Failure}
 use Rattle.tpm_actions.specs.declared.report.Failure.TheVariants as failures
 use Rattle.tpm_actions.specs.FilesInOrder.{in_order, GivesAll, ClosesAll}
 use Rattle.tpm_actions.specs.Debugging.{Breaks, CreatesAndDrives, DrivesOpened, Fails, IsKnown, StopsRun, is_over}
+use Rattle.tpm_actions.specs.Storage.{Storage}
 
-module _ {F R W : Type 0} (creates : F → Text → Result W FileFault → F → Type 0) (left : R → Option (List ℕ))
-    (read_failed : R → Bool) (written : W → Option (List ℕ)) (write_failed : W → Bool) (m : Contents)
-    (outputs : OnLinks (Option Text)) (machine : BoundedExecution) (tally : Tally)
-    (closes : F → W → Bool → F → Type 0) (before ran after : F) (readers readers_after : List (Option R))
+module _ {F R W : Type 0} (storage : Storage F R W) (m : Contents) (outputs : OnLinks (Option Text))
+    (machine : BoundedExecution) (tally : Tally) (before ran after : F) (readers readers_after : List (Option R))
     (writers_after : List (Option W)) (closed : ByLink Bool)
-    (closes_all : ClosesAll closes ran writers_after closed after) where
+    (closes_all : ClosesAll storage.calls.closes ran writers_after closed after) where
   parts : (failure : Failure)
-      → CreatesAndDrives creates left read_failed written write_failed m outputs before ran readers readers_after
-      writers_after machine tally (Err failure)
-      → Breaks creates closes left read_failed written write_failed m outputs before after readers machine tally failure
+      → CreatesAndDrives storage m outputs before ran readers readers_after writers_after machine tally (Err failure)
+      → Breaks storage m outputs before after readers machine tally failure
   parts failure drives = (
     closed,
     record {
@@ -39,10 +36,8 @@ module _ {F R W : Type 0} (creates : F → Text → Result W FileFault → F →
 
   -- the run broke off, and the files were closed
   pub breaks : (failure : Failure)
-      → CreatesAndDrives creates left read_failed written write_failed m outputs before ran readers readers_after
-      writers_after machine tally (Err failure)
-      → DrivesOpened creates closes left read_failed written write_failed m outputs before after readers machine tally
-      (Err failure)
+      → CreatesAndDrives storage m outputs before ran readers readers_after writers_after machine tally (Err failure)
+      → DrivesOpened storage m outputs before after readers machine tally (Err failure)
   breaks (failures.Malformed fault) drives = absurd drives
   breaks (failures.Uncertified refusal) drives = absurd drives
   breaks (failures.Explained refusal text) drives = absurd drives
@@ -63,14 +58,11 @@ known_if_over endings.Over execution known over = known
 known_if_over endings.Cut execution known over = absurd (cc)
 known_if_over (endings.Faulted fault) execution known over = absurd (cc)
 
-module _ {F R W : Type 0} (creates : F → Text → Result W FileFault → F → Type 0) (closes : F → W → Bool → F → Type 0)
-    (left : R → Option (List ℕ)) (read_failed : R → Bool) (written : W → Option (List ℕ)) (write_failed : W → Bool)
-    (m : Contents) (outputs : OnLinks (Option Text)) (before after : F) (readers : List (Option R))
-    (machine : BoundedExecution) (tally : Tally) where
+module _ {F R W : Type 0} (storage : Storage F R W) (m : Contents) (outputs : OnLinks (Option Text)) (before after : F)
+    (readers : List (Option R)) (machine : BoundedExecution) (tally : Tally) where
   -- so it is in the world of a machine that was driven
   pub driven_is_known : (ending : Ending)
-      → DrivesOpened creates closes left read_failed written write_failed m outputs before after readers machine tally
-      (Ok ending)
+      → DrivesOpened storage m outputs before after readers machine tally (Ok ending)
       → IsKnown ending (record { contents = machine.contents; world = machine.world })
   driven_is_known endings.Over drives =
       let shown = drives.1.0.drives.drives.comes.is_shown in
@@ -78,24 +70,20 @@ module _ {F R W : Type 0} (creates : F → Text → Result W FileFault → F →
   driven_is_known endings.Cut drives = tt
   driven_is_known (endings.Faulted fault) drives = tt
 
-module _ {F R W : Type 0} (opens : F → Text → Result R FileFault → F → Type 0)
-    (creates : F → Text → Result W FileFault → F → Type 0) (closes : F → W → Bool → F → Type 0)
-    (left : R → Option (List ℕ)) (read_failed : R → Bool) (written : W → Option (List ℕ)) (write_failed : W → Bool)
-    (m : Contents) (inputs outputs : OnLinks (Option Text)) (limit : Option Text) (before opened after : F)
-    (readers : List (Option R)) (opens_all : GivesAll opens before (in_order inputs) readers opened)
-    (machine : BoundedExecution) (tally : Tally) where
+module _ {F R W : Type 0} (storage : Storage F R W) (m : Contents) (inputs outputs : OnLinks (Option Text))
+    (limit : Option Text) (before opened after : F) (readers : List (Option R))
+    (opens_all : GivesAll storage.calls.opens before (in_order inputs) readers opened) (machine : BoundedExecution)
+    (tally : Tally) where
   fails : (failure : Failure)
-      → DrivesOpened creates closes left read_failed written write_failed m outputs opened after readers machine tally
-      (Err failure)
-      → Fails opens creates closes left read_failed written write_failed m inputs outputs limit before after failure
+      → DrivesOpened storage m outputs opened after readers machine tally (Err failure)
+      → Fails storage m inputs outputs limit before after failure
   fails failure drives =
       (machine, (tally, record { readers = readers; opened = opened; opens_all = opens_all; drives = drives }))
 
   -- the run broke off with input files that were opened
   pub opened_stops : (failure : Failure)
-      → DrivesOpened creates closes left read_failed written write_failed m outputs opened after readers machine tally
-      (Err failure)
-      → StopsRun opens creates closes left read_failed written write_failed m inputs outputs limit before after failure
+      → DrivesOpened storage m outputs opened after readers machine tally (Err failure)
+      → StopsRun storage m inputs outputs limit before after failure
   opened_stops (failures.Malformed fault) drives = absurd drives
   opened_stops (failures.Uncertified refusal) drives = absurd drives
   opened_stops (failures.Explained refusal text) drives = absurd drives

@@ -1,26 +1,23 @@
 -- What became of a run with files on the links, from its parts.
-use Rattle.std.proofs.Common.{ℕ, Bool, List, Option, Result, Err, inl}
+use Rattle.std.proofs.Common.{Bool, List, Option, Err, inl}
 use Rattle.command_line.specs.declared.links.OnLinks.{OnLinks}
 use Rattle.command_line.specs.Words.{Text}
 use Rattle.module_format.specs.Contents.{Contents}
 use Rattle.link_runs.specs.ByLink.{ByLink}
-use Rattle.tpm_actions.specs.declared.files.FileFault.{FileFault}
 use Rattle.tpm_actions.specs.declared.report.Failure.{Failure}
 use Rattle.tpm_actions.specs.declared.report.Failure.TheVariants as failures
 use Rattle.tpm_actions.specs.FilesInOrder.{ClosesAll}
 use Rattle.tpm_actions.specs.FilesOnLinks.{CreatesAndRuns, RunsOpened}
+use Rattle.tpm_actions.specs.Storage.{Storage}
 
-module _ {F R W : Type 0} (creates : F → Text → Result W FileFault → F → Type 0) (left : R → Option (List ℕ))
-    (read_failed : R → Bool) (written : W → Option (List ℕ)) (write_failed : W → Bool) (m : Contents)
-    (outputs : OnLinks (Option Text)) where
-  module _ (closes : F → W → Bool → F → Type 0) (before ran after : F) (readers readers_after : List (Option R))
+module _ {F R W : Type 0} (storage : Storage F R W) (m : Contents) (outputs : OnLinks (Option Text)) where
+  module _ (before ran after : F) (readers readers_after : List (Option R))
       (writers_after : List (Option W)) (closed : ByLink Bool)
-      (closes_all : ClosesAll closes ran writers_after closed after) where
+      (closes_all : ClosesAll storage.calls.closes ran writers_after closed after) where
     -- the run stopped, and the files were closed
     pub stops : (failure : Failure)
-        → CreatesAndRuns creates left read_failed written write_failed m outputs before ran readers readers_after
-        writers_after (Err failure)
-        → RunsOpened creates closes left read_failed written write_failed m outputs before after readers (Err failure)
+        → CreatesAndRuns storage m outputs before ran readers readers_after writers_after (Err failure)
+        → RunsOpened storage m outputs before after readers (Err failure)
     stops (failures.Malformed fault) runs = absurd runs
     stops (failures.Uncertified refusal) runs = absurd runs
     stops (failures.Explained refusal text) runs = absurd runs

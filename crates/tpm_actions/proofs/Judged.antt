@@ -1,6 +1,6 @@
 -- What is reported about a compiled source, an upgraded module, a run on the machine that checks each rule, and a module
 -- of which something is asked, or why nothing is.
-use Rattle.std.proofs.Common.{◌≡◌, ℕ, Bool, List, Option, Result, Ok, Err, MatchResult, ◌⊎◌, inl, inr, refl, subst, sym}
+use Rattle.std.proofs.Common.{ℕ, Bool, List, Option, Result, Ok, Err, MatchResult, inl, inr, refl, subst, sym}
 use Rattle.command_line.specs.Words.{Text}
 use Rattle.std.specs.Prelude.{string_bytes}
 use Rattle.module_format.specs.Contents.{Contents}
@@ -11,7 +11,6 @@ use Rattle.tpm_actions.specs.declared.report.RefusedFor.TheVariants as refused
 use Rattle.tpm_actions.specs.Explaining.{ExplainsFault, ExplainsSource, IsFaultExplained, IsSourceExplained, IsUnread}
 use Rattle.tpm_actions.specs.Explaining.{WithholdsSource}
 use Rattle.tpm_actions.specs.Malformed.{IsMalformed}
-use Rattle.tpm_actions.specs.declared.files.FileFault.{FileFault}
 use Rattle.tpm_actions.specs.declared.report.Failure.{Failure}
 use Rattle.tpm_actions.specs.declared.report.Failure.TheVariants as failures
 use Rattle.command_line.specs.declared.links.OnLinks.{OnLinks}
@@ -23,15 +22,12 @@ use Rattle.tpm_actions.specs.Compiling.{HasCompiled, WithholdsModule}
 use Rattle.tpm_actions.specs.Upgrading.{HasUpgraded, WithholdsUpgrade}
 use Rattle.tpm_actions.specs.Acting.{IsAllowed, TellsOf, StopsIn, IsDone, ExplainsTo, WithholdsOf, IsTold, IsStopped}
 use Rattle.tpm_actions.specs.Acting.{IsUntold, IsRefusedWith, IsHindered}
+use Rattle.tpm_actions.specs.Storage.{Storage}
 
-module _ {F R W : Type 0} (opens : F → Text → Result R FileFault → F → Type 0)
-    (creates : F → Text → Result W FileFault → F → Type 0) (closes : F → W → Bool → F → Type 0)
-    (left : R → Option (List ℕ)) (read_failed : R → Bool) (written : W → Option (List ℕ))
-    (write_failed : W → Bool) where
+module _ {F R W : Type 0} (storage : Storage F R W) where
   module_withheld : (bytes : List ℕ) (source out : Text) (before after : F) (failure : Failure)
-      → WithholdsModule creates closes written source bytes out before after failure
-      → IsHindered opens creates closes left read_failed written write_failed bytes (compiles source out) before after
-      failure
+      → WithholdsModule storage source bytes out before after failure
+      → IsHindered storage bytes (compiles source out) before after failure
   module_withheld bytes source out before after (failures.Malformed fault) why = absurd why.writes
   module_withheld bytes source out before after (failures.Uncertified refusal) why = absurd why.writes
   module_withheld bytes source out before after (failures.Explained refusal text) why = absurd why.writes
@@ -49,20 +45,18 @@ module _ {F R W : Type 0} (opens : F → Text → Result R FileFault → F → T
   pub module_judged : {S : Type 0} (text_of : S → Text) (bytes : List ℕ) (source out : Text) (before after : F)
       (result : Result S Failure)
       → MatchResult result
-      (λ text. HasCompiled creates closes written bytes out before after (text_of text))
-      (WithholdsModule creates closes written source bytes out before after)
+      (λ text. HasCompiled storage bytes out before after (text_of text))
+      (WithholdsModule storage source bytes out before after)
       → MatchResult result
-      (λ text. IsTold opens creates closes left read_failed written write_failed bytes (compiles source out) before
-      after (text_of text))
-      (IsHindered opens creates closes left read_failed written write_failed bytes (compiles source out) before after)
+      (λ text. IsTold storage bytes (compiles source out) before after (text_of text))
+      (IsHindered storage bytes (compiles source out) before after)
   module_judged text_of bytes source out before after (Ok text) has = has
   module_judged text_of bytes source out before after (Err failure) why =
       module_withheld bytes source out before after failure why
 
   upgrade_withheld : (bytes : List ℕ) (old new : Text) (before after : F) (failure : Failure)
-      → WithholdsUpgrade creates closes written bytes new before after failure
-      → IsHindered opens creates closes left read_failed written write_failed bytes (upgrades old new) before after
-      failure
+      → WithholdsUpgrade storage bytes new before after failure
+      → IsHindered storage bytes (upgrades old new) before after failure
   upgrade_withheld bytes old new before after (failures.Malformed fault) why = why
   upgrade_withheld bytes old new before after (failures.Uncertified refusal) why = absurd why.writes
   upgrade_withheld bytes old new before after (failures.Explained refusal text) why = absurd why.writes
@@ -80,22 +74,19 @@ module _ {F R W : Type 0} (opens : F → Text → Result R FileFault → F → T
   pub upgrade_judged : {S : Type 0} (text_of : S → Text) (bytes : List ℕ) (old new : Text) (before after : F)
       (result : Result S Failure)
       → MatchResult result
-      (λ text. HasUpgraded creates closes written bytes new before after (text_of text))
-      (WithholdsUpgrade creates closes written bytes new before after)
+      (λ text. HasUpgraded storage bytes new before after (text_of text))
+      (WithholdsUpgrade storage bytes new before after)
       → MatchResult result
-      (λ text. IsTold opens creates closes left read_failed written write_failed bytes (upgrades old new) before
-      after (text_of text))
-      (IsHindered opens creates closes left read_failed written write_failed bytes (upgrades old new) before after)
+      (λ text. IsTold storage bytes (upgrades old new) before after (text_of text))
+      (IsHindered storage bytes (upgrades old new) before after)
   upgrade_judged text_of bytes old new before after (Ok text) has = has
   upgrade_judged text_of bytes old new before after (Err failure) why =
       upgrade_withheld bytes old new before after failure why
 
   program_withheld : (bytes : List ℕ) (path : Text) (inputs outputs : OnLinks (Option Text)) (limit : Option Text)
       (trace : Bool) (before after : F) (failure : Failure)
-      → WithholdsProgram opens creates closes left read_failed written write_failed inputs outputs limit before after
-      bytes failure
-      → IsHindered opens creates closes left read_failed written write_failed bytes
-      (debugs path inputs outputs limit trace) before after failure
+      → WithholdsProgram storage inputs outputs limit before after bytes failure
+      → IsHindered storage bytes (debugs path inputs outputs limit trace) before after failure
   program_withheld bytes path inputs outputs limit trace before after (failures.Malformed fault) why = why
   program_withheld bytes path inputs outputs limit trace before after (failures.Uncertified refusal) why =
       absurd why.holds
@@ -117,14 +108,12 @@ module _ {F R W : Type 0} (opens : F → Text → Result R FileFault → F → T
       (inputs outputs : OnLinks (Option Text)) (limit : Option Text) (trace : Bool) (before after : F)
       (result : Result S Failure)
       → MatchResult result
-      (λ text. TellsProgram opens creates closes left read_failed written write_failed inputs outputs limit before after
-      bytes (text_of text))
-      (WithholdsProgram opens creates closes left read_failed written write_failed inputs outputs limit before after
-      bytes)
+      (λ text. TellsProgram storage inputs outputs limit before after bytes (text_of text))
+      (WithholdsProgram storage inputs outputs limit before after bytes)
       → MatchResult result
-      (λ text. IsTold opens creates closes left read_failed written write_failed bytes
+      (λ text. IsTold storage bytes
       (debugs path inputs outputs limit trace) before after (text_of text))
-      (IsHindered opens creates closes left read_failed written write_failed bytes
+      (IsHindered storage bytes
       (debugs path inputs outputs limit trace) before after)
   program_judged text_of bytes path inputs outputs limit trace before after (Ok text) has = has
   program_judged text_of bytes path inputs outputs limit trace before after (Err failure) why =
@@ -138,8 +127,7 @@ module _ {F R W : Type 0} (opens : F → Text → Result R FileFault → F → T
     source_refused (refused.Uncompiled fault) text is = is
 
     source_withheld : (failure : Failure) → WithholdsSource path bytes failure
-        → IsHindered opens creates closes left read_failed written write_failed bytes (explains path) before before
-        failure
+        → IsHindered storage bytes (explains path) before before failure
     source_withheld (failures.Malformed fault) why = absurd why
     source_withheld (failures.Uncertified refusal) why = absurd why
     source_withheld (failures.Explained refusal text) why = (source_refused refusal (string_bytes text) why, refl)
@@ -157,9 +145,9 @@ module _ {F R W : Type 0} (opens : F → Text → Result R FileFault → F → T
     pub source_judged : {S : Type 0} (text_of : S → Text) (result : Result S Failure)
         → MatchResult result (λ text. IsSourceExplained bytes (text_of text)) (WithholdsSource path bytes)
         → MatchResult result
-        (λ text. IsTold opens creates closes left read_failed written write_failed bytes (explains path) before before
+        (λ text. IsTold storage bytes (explains path) before before
         (text_of text))
-        (IsHindered opens creates closes left read_failed written write_failed bytes (explains path) before before)
+        (IsHindered storage bytes (explains path) before before)
     source_judged text_of (Ok text) has = inr (has, refl)
     source_judged text_of (Err failure) why = source_withheld failure why
 
@@ -178,8 +166,7 @@ module _ {F R W : Type 0} (opens : F → Text → Result R FileFault → F → T
 
     -- the answer where the bytes are no module file
     pub unread : (question : Question) (failure : Failure) → IsUnread bytes question fault failure
-        → IsHindered opens creates closes left read_failed written write_failed bytes (asked_about path question) before
-        before failure
+        → IsHindered storage bytes (asked_about path question) before before failure
     unread question (failures.Malformed told) is =
         (subst (λ (f : FormatFault). IsMalformed bytes f) (sym is) malformed, refl)
     unread question (failures.Uncertified refusal) is = absurd is
@@ -198,20 +185,16 @@ module _ {F R W : Type 0} (opens : F → Text → Result R FileFault → F → T
   module _ (bytes : List ℕ) (m : Contents) (format : Format bytes m) (path : Text) (before after : F) where
     -- what is reported about the module
     told : (question : Question) (text : Text)
-        → TellsOf opens creates closes left read_failed written write_failed m (asked_about path question) before after
-        text
-        → IsTold opens creates closes left read_failed written write_failed bytes (asked_about path question) before
-        after text
+        → TellsOf storage m (asked_about path question) before after text
+        → IsTold storage bytes (asked_about path question) before after text
     told Verdict text tells = record { contents = m; format = format; told = tells }
     told (Run inputs outputs) text tells = record { contents = m; format = format; told = tells }
     told Listing text tells = record { contents = m; format = format; told = tells }
     told Explanation text tells = inl (record { contents = m; format = format; told = tells })
 
     stopped : (question : Question) (failure : Failure) → IsAllowed m (asked_about path question)
-        → StopsIn opens creates closes left read_failed written write_failed m (asked_about path question) before after
-        failure
-        → IsStopped opens creates closes left read_failed written write_failed bytes (asked_about path question) before
-        after failure
+        → StopsIn storage m (asked_about path question) before after failure
+        → IsStopped storage bytes (asked_about path question) before after failure
     stopped Verdict failure allowed stops = absurd stops
     stopped (Run inputs outputs) failure allowed stops =
         record { contents = m; format = format; certified = allowed; holds = stops }
@@ -219,9 +202,8 @@ module _ {F R W : Type 0} (opens : F → Text → Result R FileFault → F → T
     stopped Explanation failure allowed stops = absurd stops
 
     untold : (question : Question) → IsAllowed m (asked_about path question)
-        → IsDone opens creates closes left read_failed written write_failed m (asked_about path question) before after
-        → IsUntold opens creates closes left read_failed written write_failed bytes (asked_about path question) before
-        after
+        → IsDone storage m (asked_about path question) before after
+        → IsUntold storage bytes (asked_about path question) before after
     untold Verdict allowed done = record { contents = m; format = format; certified = allowed; holds = done }
     untold (Run inputs outputs) allowed done =
         record { contents = m; format = format; certified = allowed; holds = done }
@@ -241,10 +223,8 @@ module _ {F R W : Type 0} (opens : F → Text → Result R FileFault → F → T
     explained Explanation (refused.Uncompiled fault) text is = absurd is
 
     withheld : (question : Question) (failure : Failure)
-        → WithholdsOf opens creates closes left read_failed written write_failed m (asked_about path question) before
-        after failure
-        → IsHindered opens creates closes left read_failed written write_failed bytes (asked_about path question) before
-        after failure
+        → WithholdsOf storage m (asked_about path question) before after failure
+        → IsHindered storage bytes (asked_about path question) before after failure
     withheld question (failures.Malformed fault) why = absurd why
     withheld question (failures.Uncertified refusal) why =
         (record { contents = m; format = format; withheld = why.0 }, why.1)
@@ -266,15 +246,11 @@ module _ {F R W : Type 0} (opens : F → Text → Result R FileFault → F → T
     -- the answer that a question about the module gives
     pub replied : {S : Type 0} (text_of : S → Text) (question : Question) (result : Result S Failure)
         → MatchResult result
-        (λ text. TellsOf opens creates closes left read_failed written write_failed m (asked_about path question) before
-        after (text_of text))
-        (WithholdsOf opens creates closes left read_failed written write_failed m (asked_about path question) before
-        after)
+        (λ text. TellsOf storage m (asked_about path question) before after (text_of text))
+        (WithholdsOf storage m (asked_about path question) before after)
         → MatchResult result
-        (λ text. IsTold opens creates closes left read_failed written write_failed bytes (asked_about path question)
-        before after (text_of text))
-        (IsHindered opens creates closes left read_failed written write_failed bytes (asked_about path question) before
-        after)
+        (λ text. IsTold storage bytes (asked_about path question) before after (text_of text))
+        (IsHindered storage bytes (asked_about path question) before after)
     replied text_of question (Ok text) tells = told question (text_of text) tells
     replied text_of question (Err failure) why = withheld question failure why
 

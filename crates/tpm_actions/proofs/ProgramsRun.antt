@@ -1,22 +1,18 @@
 -- What became of a run, as what became of a module or a source that was run.
-use Rattle.std.proofs.Common.{ℕ, Bool, List, Option, Result, Ok, Err, MatchResult}
+use Rattle.std.proofs.Common.{ℕ, List, Option, Result, Ok, Err, MatchResult}
 use Rattle.command_line.specs.Words.{Text}
 use Rattle.command_line.specs.declared.links.OnLinks.{OnLinks}
-use Rattle.tpm_actions.specs.declared.files.FileFault.{FileFault}
 use Rattle.tpm_actions.specs.declared.report.Failure.{Failure}
 use Rattle.tpm_actions.specs.declared.report.Failure.TheVariants as failures
 use Rattle.tpm_actions.specs.Debugging.{StopsRun}
 use Rattle.tpm_actions.specs.Programs.{LinedModule, IsProgramOf, TellsModule, TellsProgram, WithholdsProgram, WithholdsRun}
+use Rattle.tpm_actions.specs.Storage.{Storage}
 
-module _ {F R W : Type 0} (opens : F → Text → Result R FileFault → F → Type 0)
-    (creates : F → Text → Result W FileFault → F → Type 0) (closes : F → W → Bool → F → Type 0)
-    (left : R → Option (List ℕ)) (read_failed : R → Bool) (written : W → Option (List ℕ)) (write_failed : W → Bool)
-    (inputs outputs : OnLinks (Option Text)) (limit : Option Text) (before after : F) (m : LinedModule) where
+module _ {F R W : Type 0} (storage : Storage F R W) (inputs outputs : OnLinks (Option Text)) (limit : Option Text)
+    (before after : F) (m : LinedModule) where
   pub stops_run : (failure : Failure)
-      → StopsRun opens creates closes left read_failed written write_failed m.contents inputs outputs limit before after
-      failure
-      → WithholdsRun opens creates closes left read_failed written write_failed inputs outputs limit before after m
-      failure
+      → StopsRun storage m.contents inputs outputs limit before after failure
+      → WithholdsRun storage inputs outputs limit before after m failure
   stops_run (failures.Malformed fault) why = why
   stops_run (failures.Uncertified refusal) why = why
   stops_run (failures.Explained refusal text) why = why
@@ -32,10 +28,8 @@ module _ {F R W : Type 0} (opens : F → Text → Result R FileFault → F → T
 
   module _ (bytes : List ℕ) (program : IsProgramOf bytes m) where
     withheld : (failure : Failure)
-        → WithholdsRun opens creates closes left read_failed written write_failed inputs outputs limit before after m
-        failure
-        → WithholdsProgram opens creates closes left read_failed written write_failed inputs outputs limit before after
-        bytes failure
+        → WithholdsRun storage inputs outputs limit before after m failure
+        → WithholdsProgram storage inputs outputs limit before after bytes failure
     withheld (failures.Malformed fault) why = absurd why
     withheld (failures.Uncertified refusal) why = record { lined = m; program = program; holds = why }
     withheld (failures.Explained refusal text) why = record { lined = m; program = program; holds = why }
@@ -52,13 +46,10 @@ module _ {F R W : Type 0} (opens : F → Text → Result R FileFault → F → T
     -- what a module's run tells, or why it is not told, of the bytes that it is in
     pub programmed : {S : Type 0} (text_of : S → Text) (result : Result S Failure)
         → MatchResult result
-        (λ text. TellsModule opens creates closes left read_failed written write_failed inputs outputs limit before after
-        m (text_of text))
-        (WithholdsRun opens creates closes left read_failed written write_failed inputs outputs limit before after m)
+        (λ text. TellsModule storage inputs outputs limit before after m (text_of text))
+        (WithholdsRun storage inputs outputs limit before after m)
         → MatchResult result
-        (λ text. TellsProgram opens creates closes left read_failed written write_failed inputs outputs limit before
-        after bytes (text_of text))
-        (WithholdsProgram opens creates closes left read_failed written write_failed inputs outputs limit before after
-        bytes)
+        (λ text. TellsProgram storage inputs outputs limit before after bytes (text_of text))
+        (WithholdsProgram storage inputs outputs limit before after bytes)
     programmed text_of (Ok text) has = record { lined = m; program = program; holds = has }
     programmed text_of (Err failure) why = withheld failure why

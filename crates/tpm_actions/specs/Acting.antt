@@ -1,5 +1,5 @@
 -- What the program reports, and when: our own choice.
-use Rattle.std.specs.Prelude.{◌≡◌, ◌⊎◌, ⊤, ℕ, Bool, true, false, List, take, Option, Some, None, Result, Ok, Err}
+use Rattle.std.specs.Prelude.{◌≡◌, ◌⊎◌, ⊤, ℕ, true, false, List, take, Option, Some, None, Result, Ok, Err}
 use Rattle.std.specs.Prelude.{string_bytes}
 use Rattle.std.specs.Io.KnownBytes.{Appends}
 use Rattle.command_line.specs.declared.links.OnLinks.{OnLinks}
@@ -14,8 +14,6 @@ use Rattle.certified_worlds.specs.Certified.{IsCertified}
 use Rattle.compiler.specs.Compiled.{IsRefusedFor}
 use Rattle.verifier.specs.Reports.{Reports, out_of_memory}
 use Rattle.verifier.specs.declared.upgrading.UpgradeFault.{UpgradeFault}
-use Rattle.tpm_actions.specs.declared.extent.Extent.{Extent}
-use Rattle.tpm_actions.specs.declared.files.FileFault.{FileFault}
 use Rattle.tpm_actions.specs.Extents.{begins_as_module, extent_of}
 use Rattle.tpm_actions.specs.declared.files.FileFault.TheVariants as file_faults
 use Rattle.tpm_actions.specs.declared.refused.RefusedSource.{RefusedSource}
@@ -37,6 +35,7 @@ use Rattle.tpm_actions.specs.Programs.{EndsAs, IsProgramWith, TellsProgram, With
 use Rattle.tpm_actions.specs.Streams.{shown_of}
 use Rattle.tpm_actions.specs.Texts.{report_line, run_text, status_of}
 use Rattle.listings.specs.Listing.{listing}
+use Rattle.tpm_actions.specs.Storage.{Storage}
 
 -- ---- the bytes of a module file
 
@@ -127,15 +126,12 @@ Tells before after text (Err failure) = ⊥
 
 -- ---- files
 
-module _ {F R W : Type 0} (opens : F → Text → Result R FileFault → F → Type 0)
-    (creates : F → Text → Result W FileFault → F → Type 0) (closes : F → W → Bool → F → Type 0)
-    (left : R → Option (List ℕ)) (read_failed : R → Bool) (written : W → Option (List ℕ))
-    (write_failed : W → Bool) where
+module _ {F R W : Type 0} (storage : Storage F R W) where
   -- what becomes of a run of the module with files on its links
   abbrev pub RunOf : Contents → OnLinks (Option Text) → OnLinks (Option Text) → F → F → Result RunReport Failure
       → Type 0
   RunOf m inputs outputs before after result =
-      RunsTo opens creates closes left read_failed written write_failed m inputs outputs before after result
+      RunsTo storage m inputs outputs before after result
 
   -- The module is certified, its run came to an end, and this text reports it.
   pub record HasRun (m : Contents) (inputs outputs : OnLinks (Option Text)) (before after : F) (text : Text) :
@@ -199,16 +195,15 @@ module _ {F R W : Type 0} (opens : F → Text → Result R FileFault → F → T
   -- A run on the machine that checks each rule was brought to this fault, and this text says how far it came.
   abbrev pub IsFaulted : List ℕ → Asked → Fault → F → F → Text → Type 0
   IsFaulted bytes (debugs path inputs outputs limit trace) fault before after text =
-      IsProgramWith bytes (λ m. EndsAs opens creates closes left read_failed written write_failed inputs outputs limit
-      before after m (endings.Faulted fault) text)
+      IsProgramWith bytes (λ m. EndsAs storage inputs outputs limit before after m (endings.Faulted fault) text)
   IsFaulted bytes asked fault before after text = ⊥
 
   -- what is reported about a source or a module
   abbrev pub IsTold : List ℕ → Asked → F → F → Text → Type 0
-  IsTold bytes (compiles source out) before after text = HasCompiled creates closes written bytes out before after text
-  IsTold bytes (upgrades old new) before after text = HasUpgraded creates closes written bytes new before after text
+  IsTold bytes (compiles source out) before after text = HasCompiled storage bytes out before after text
+  IsTold bytes (upgrades old new) before after text = HasUpgraded storage bytes new before after text
   IsTold bytes (debugs path inputs outputs limit trace) before after text =
-      TellsProgram opens creates closes left read_failed written write_failed inputs outputs limit before after bytes text
+      TellsProgram storage inputs outputs limit before after bytes text
   IsTold bytes (explains path) before after text =
       IsToldOfModule bytes (explains path) before after text ⊎ (IsSourceExplained bytes text × (after ≡ before))
   IsTold bytes asked before after text = IsToldOfModule bytes asked before after text
@@ -217,20 +212,20 @@ module _ {F R W : Type 0} (opens : F → Text → Result R FileFault → F → T
   -- stopped by this failure.
   abbrev pub IsStopped : List ℕ → Asked → F → F → Failure → Type 0
   IsStopped bytes (compiles source out) before after failure =
-      CompilesAndWrites creates closes written bytes out before after (Err failure)
+      CompilesAndWrites storage bytes out before after (Err failure)
   IsStopped bytes (upgrades old new) before after failure =
-      UpgradesAndWrites creates closes written bytes new before after (Err failure)
+      UpgradesAndWrites storage bytes new before after (Err failure)
   IsStopped bytes (debugs path inputs outputs limit trace) before after failures.Memory = ⊤
   IsStopped bytes (debugs path inputs outputs limit trace) before after failure = IsProgramWith bytes (λ m.
-      WithholdsRun opens creates closes left read_failed written write_failed inputs outputs limit before after m failure)
+      WithholdsRun storage inputs outputs limit before after m failure)
   IsStopped bytes asked before after failure = IsJudged bytes asked (λ m. StopsIn m asked before after failure)
 
   -- what is asked for was done with the bytes, but is not reported
   abbrev pub IsUntold : List ℕ → Asked → F → F → Type 0
   IsUntold bytes (compiles source out) before after =
-      (u : ⊤) × CompilesAndWrites creates closes written bytes out before after (Ok u)
+      (u : ⊤) × CompilesAndWrites storage bytes out before after (Ok u)
   IsUntold bytes (upgrades old new) before after =
-      (u : ⊤) × UpgradesAndWrites creates closes written bytes new before after (Ok u)
+      (u : ⊤) × UpgradesAndWrites storage bytes new before after (Ok u)
   IsUntold bytes (debugs path inputs outputs limit trace) before after = ⊥
   IsUntold bytes (explains path) before after =
       IsJudged bytes (explains path) (λ m. IsDone m (explains path) before after)
@@ -255,108 +250,108 @@ module _ {F R W : Type 0} (opens : F → Text → Result R FileFault → F → T
       IsStopped bytes asked before after failures.Memory ⊎ IsUntold bytes asked before after
   IsHindered bytes asked before after failure = IsStopped bytes asked before after failure
 
-  module _ (reads : F → List ℕ → Extent → Result (List ℕ) FileFault → F → Type 0) where
-    -- The file that is asked for was read. It gave bytes, and left files, of which this holds.
-    pub record Reads (asked : Asked) (before : F) (holds_of : List ℕ → F → Type 0) : Type 0 where
-      pub bytes : List ℕ
-      pub next : F
-      pub read : reads before (path_of asked) (extent_of asked) (Ok bytes) next
-      pub holds : holds_of bytes next
+  -- The file that is asked for was read. It gave bytes, and left files, of which this holds.
+  pub record Reads (asked : Asked) (before : F) (holds_of : List ℕ → F → Type 0) : Type 0 where
+    pub bytes : List ℕ
+    pub next : F
+    pub read : storage.calls.reads before (path_of asked) (extent_of asked) (Ok bytes) next
+    pub holds : holds_of bytes next
 
-    -- why nothing is reported, where the file that is asked for was read
-    abbrev pub Hinders : Asked → F → F → Failure → Type 0
-    Hinders asked before after failure = Reads asked before (λ bytes next. IsHindered bytes asked next after failure)
+  -- why nothing is reported, where the file that is asked for was read
+  abbrev pub Hinders : Asked → F → F → Failure → Type 0
+  Hinders asked before after failure = Reads asked before (λ bytes next. IsHindered bytes asked next after failure)
 
-    -- The file is refused, and this text explains it.
-    abbrev pub RefusesWith : Asked → F → F → Text → Type 0
-    RefusesWith asked before after text =
-        (refusal : RefusedFor) × Reads asked before (λ bytes next. IsRefusedWith bytes asked refusal text × (after ≡ next))
+  -- The file is refused, and this text explains it.
+  abbrev pub RefusesWith : Asked → F → F → Text → Type 0
+  RefusesWith asked before after text =
+      (refusal : RefusedFor) × Reads asked before (λ bytes next. IsRefusedWith bytes asked refusal text × (after ≡ next))
 
-    -- The run of what is in the file was brought to a fault, and this text says how far it came.
-    abbrev pub FaultsWith : Asked → F → F → Text → Type 0
-    FaultsWith asked before after text =
-        (fault : Fault) × Reads asked before (λ bytes next. IsFaulted bytes asked fault next after text)
+  -- The run of what is in the file was brought to a fault, and this text says how far it came.
+  abbrev pub FaultsWith : Asked → F → F → Text → Type 0
+  FaultsWith asked before after text =
+      (fault : Fault) × Reads asked before (λ bytes next. IsFaulted bytes asked fault next after text)
 
-    -- what is reported about the file that is asked for, or why nothing is
-    abbrev pub Answers : Asked → F → F → Result Text Failure → Type 0
-    Answers asked before after (Ok text) = Reads asked before (λ bytes next. IsTold bytes asked next after text)
-    Answers asked before after (Err (failures.Unread path)) =
-        ((path.now ≡ path_of asked) × reads before (path_of asked) (extent_of asked) (Err file_faults.Failed) after)
-        ⊎ Hinders asked before after (failures.Unread path)
-    Answers asked before after (Err failures.Unwritten) = ⊥
-    Answers asked before after (Err failures.Memory) =
-        reads before (path_of asked) (extent_of asked) (Err file_faults.Memory) after
-        ⊎ Hinders asked before after failures.Memory
-    Answers asked before after (Err failure) = Hinders asked before after failure
+  -- what is reported about the file that is asked for, or why nothing is
+  abbrev pub Answers : Asked → F → F → Result Text Failure → Type 0
+  Answers asked before after (Ok text) = Reads asked before (λ bytes next. IsTold bytes asked next after text)
+  Answers asked before after (Err (failures.Unread path)) =
+      ((path.now ≡ path_of asked) × storage.calls.reads before (path_of asked) (extent_of asked)
+      (Err file_faults.Failed) after)
+      ⊎ Hinders asked before after (failures.Unread path)
+  Answers asked before after (Err failures.Unwritten) = ⊥
+  Answers asked before after (Err failures.Memory) =
+      storage.calls.reads before (path_of asked) (extent_of asked) (Err file_faults.Memory) after
+      ⊎ Hinders asked before after failures.Memory
+  Answers asked before after (Err failure) = Hinders asked before after failure
 
-    -- Standard output failed, and holds a beginning of what is reported, of the explanation of a refusal, or of how far a
-    -- run came that was brought to a fault.
-    pub data IsToldInPart (asked : Asked) (before after : F) (out_before out_after : Option (List ℕ)) : Type 0 where
-      report_in_part : (text : Text) → Answers asked before after (Ok text)
-          → HoldsBeginning out_before out_after (shown_of asked text)
-          → IsToldInPart asked before after out_before out_after
-      explanation_in_part : (text : Text) → RefusesWith asked before after text
-          → HoldsBeginning out_before out_after text → IsToldInPart asked before after out_before out_after
-      fault_in_part : (text : Text) → FaultsWith asked before after text
-          → HoldsBeginning out_before out_after (shown_of asked text)
-          → IsToldInPart asked before after out_before out_after
+  -- Standard output failed, and holds a beginning of what is reported, of the explanation of a refusal, or of how far a
+  -- run came that was brought to a fault.
+  pub data IsToldInPart (asked : Asked) (before after : F) (out_before out_after : Option (List ℕ)) : Type 0 where
+    report_in_part : (text : Text) → Answers asked before after (Ok text)
+        → HoldsBeginning out_before out_after (shown_of asked text)
+        → IsToldInPart asked before after out_before out_after
+    explanation_in_part : (text : Text) → RefusesWith asked before after text
+        → HoldsBeginning out_before out_after text → IsToldInPart asked before after out_before out_after
+    fault_in_part : (text : Text) → FaultsWith asked before after text
+        → HoldsBeginning out_before out_after (shown_of asked text)
+        → IsToldInPart asked before after out_before out_after
 
-    -- What the program did as asked: it wrote the report; it wrote the explanation of a refusal, or how far a run came,
-    -- and returned that; it wrote nothing and returned why; or standard output failed.
-    abbrev pub Performs : Asked → F → F → Option (List ℕ) → Option (List ℕ) → Result ⊤ Failure → Type 0
-    Performs asked before after out_before out_after (Ok _) =
-        (text : Text) × Answers asked before after (Ok text) × Appends out_before out_after (shown_of asked text)
-    Performs asked before after out_before out_after (Err (failures.Explained refusal text)) =
-        Answers asked before after (Err (failures.Explained refusal text))
-        × Appends out_before out_after (string_bytes text)
-    Performs asked before after out_before out_after (Err (failures.Faulted fault text)) =
-        Answers asked before after (Err (failures.Faulted fault text))
-        × Appends out_before out_after (shown_of asked (string_bytes text))
-    Performs asked before after out_before out_after (Err failures.Unwritten) =
-        IsToldInPart asked before after out_before out_after
-    Performs asked before after out_before out_after (Err failure) =
-        Answers asked before after (Err failure) × (out_after ≡ out_before)
+  -- What the program did as asked: it wrote the report; it wrote the explanation of a refusal, or how far a run came,
+  -- and returned that; it wrote nothing and returned why; or standard output failed.
+  abbrev pub Performs : Asked → F → F → Option (List ℕ) → Option (List ℕ) → Result ⊤ Failure → Type 0
+  Performs asked before after out_before out_after (Ok _) =
+      (text : Text) × Answers asked before after (Ok text) × Appends out_before out_after (shown_of asked text)
+  Performs asked before after out_before out_after (Err (failures.Explained refusal text)) =
+      Answers asked before after (Err (failures.Explained refusal text))
+      × Appends out_before out_after (string_bytes text)
+  Performs asked before after out_before out_after (Err (failures.Faulted fault text)) =
+      Answers asked before after (Err (failures.Faulted fault text))
+      × Appends out_before out_after (shown_of asked (string_bytes text))
+  Performs asked before after out_before out_after (Err failures.Unwritten) =
+      IsToldInPart asked before after out_before out_after
+  Performs asked before after out_before out_after (Err failure) =
+      Answers asked before after (Err failure) × (out_after ≡ out_before)
 
-    -- What the program did by the words: with the files, with what is known of standard output, and its exit status.
-    pub data Acts (words : List Text) (before after : F) (out_before out_after : Option (List ℕ))
-        (status : ℕ) : Type 0 where
-      -- what is asked for is reported, and nothing else
-      told : (asked : Asked) (text : Text) → line_of words ≡ Some asked
-          → Reads asked before (λ bytes next. IsTold bytes asked next after text)
-          → Appends out_before out_after (shown_of asked text) → status ≡ DONE → Acts words before after out_before out_after status
-      -- the reader, the verifier, the compiler or the upgrade refuses the bytes, and no file is created
-      refused : (asked : Asked) → line_of words ≡ Some asked
-          → Reads asked before (λ bytes next. IsRefusedBy bytes asked × (after ≡ next))
-          → out_after ≡ out_before → status ≡ REFUSED → Acts words before after out_before out_after status
-      -- the reader, the verifier or the compiler refuses the file, which is explained, and nothing else
-      explained : (asked : Asked) (text : Text) → line_of words ≡ Some asked → RefusesWith asked before after text
-          → Appends out_before out_after text → status ≡ REFUSED → Acts words before after out_before out_after status
-      -- a process is at fault in the run of what is in the file, and how far it came is reported
-      faulted : (asked : Asked) (text : Text) → line_of words ≡ Some asked → FaultsWith asked before after text
-          → Appends out_before out_after (shown_of asked text) → status ≡ REFUSED
-          → Acts words before after out_before out_after status
-      -- the words ask for nothing, and no file is touched
-      misused : line_of words ≡ None → after ≡ before → out_after ≡ out_before → status ≡ MISUSED
-          → Acts words before after out_before out_after status
-      -- the file is not read
-      unread : (asked : Asked) → line_of words ≡ Some asked
-          → reads before (path_of asked) (extent_of asked) (Err file_faults.Failed) after
-          → out_after ≡ out_before → status ≡ FAILED → Acts words before after out_before out_after status
-      -- a file was not opened, created, written or closed, or a link failed, or memory ran out for them
-      stopped : (asked : Asked) (failure : Failure) → line_of words ≡ Some asked
-          → Reads asked before (λ bytes next. IsStopped bytes asked next after failure)
-          → out_after ≡ out_before → status ≡ status_of failure → Acts words before after out_before out_after status
-      -- standard output failed, and holds a beginning of what is reported
-      unwritten : (asked : Asked) → line_of words ≡ Some asked → IsToldInPart asked before after out_before out_after
-          → status ≡ FAILED → Acts words before after out_before out_after status
-      -- memory ran out at the words, and no file is touched
-      starved_by_words : after ≡ before → out_after ≡ out_before → status ≡ STARVED
-          → Acts words before after out_before out_after status
-      -- memory ran out at the file
-      starved_by_file : (asked : Asked) → line_of words ≡ Some asked
-          → reads before (path_of asked) (extent_of asked) (Err file_faults.Memory) after
-          → out_after ≡ out_before → status ≡ STARVED → Acts words before after out_before out_after status
-      -- what was asked for was done, and then memory ran out for the text of the report
-      starved_by_text : (asked : Asked) → line_of words ≡ Some asked
-          → Reads asked before (λ bytes next. IsUntold bytes asked next after)
-          → out_after ≡ out_before → status ≡ STARVED → Acts words before after out_before out_after status
+  -- What the program did by the words: with the files, with what is known of standard output, and its exit status.
+  pub data Acts (words : List Text) (before after : F) (out_before out_after : Option (List ℕ))
+      (status : ℕ) : Type 0 where
+    -- what is asked for is reported, and nothing else
+    told : (asked : Asked) (text : Text) → line_of words ≡ Some asked
+        → Reads asked before (λ bytes next. IsTold bytes asked next after text)
+        → Appends out_before out_after (shown_of asked text) → status ≡ DONE → Acts words before after out_before out_after status
+    -- the reader, the verifier, the compiler or the upgrade refuses the bytes, and no file is created
+    refused : (asked : Asked) → line_of words ≡ Some asked
+        → Reads asked before (λ bytes next. IsRefusedBy bytes asked × (after ≡ next))
+        → out_after ≡ out_before → status ≡ REFUSED → Acts words before after out_before out_after status
+    -- the reader, the verifier or the compiler refuses the file, which is explained, and nothing else
+    explained : (asked : Asked) (text : Text) → line_of words ≡ Some asked → RefusesWith asked before after text
+        → Appends out_before out_after text → status ≡ REFUSED → Acts words before after out_before out_after status
+    -- a process is at fault in the run of what is in the file, and how far it came is reported
+    faulted : (asked : Asked) (text : Text) → line_of words ≡ Some asked → FaultsWith asked before after text
+        → Appends out_before out_after (shown_of asked text) → status ≡ REFUSED
+        → Acts words before after out_before out_after status
+    -- the words ask for nothing, and no file is touched
+    misused : line_of words ≡ None → after ≡ before → out_after ≡ out_before → status ≡ MISUSED
+        → Acts words before after out_before out_after status
+    -- the file is not read
+    unread : (asked : Asked) → line_of words ≡ Some asked
+        → storage.calls.reads before (path_of asked) (extent_of asked) (Err file_faults.Failed) after
+        → out_after ≡ out_before → status ≡ FAILED → Acts words before after out_before out_after status
+    -- a file was not opened, created, written or closed, or a link failed, or memory ran out for them
+    stopped : (asked : Asked) (failure : Failure) → line_of words ≡ Some asked
+        → Reads asked before (λ bytes next. IsStopped bytes asked next after failure)
+        → out_after ≡ out_before → status ≡ status_of failure → Acts words before after out_before out_after status
+    -- standard output failed, and holds a beginning of what is reported
+    unwritten : (asked : Asked) → line_of words ≡ Some asked → IsToldInPart asked before after out_before out_after
+        → status ≡ FAILED → Acts words before after out_before out_after status
+    -- memory ran out at the words, and no file is touched
+    starved_by_words : after ≡ before → out_after ≡ out_before → status ≡ STARVED
+        → Acts words before after out_before out_after status
+    -- memory ran out at the file
+    starved_by_file : (asked : Asked) → line_of words ≡ Some asked
+        → storage.calls.reads before (path_of asked) (extent_of asked) (Err file_faults.Memory) after
+        → out_after ≡ out_before → status ≡ STARVED → Acts words before after out_before out_after status
+    -- what was asked for was done, and then memory ran out for the text of the report
+    starved_by_text : (asked : Asked) → line_of words ≡ Some asked
+        → Reads asked before (λ bytes next. IsUntold bytes asked next after)
+        → out_after ≡ out_before → status ≡ STARVED → Acts words before after out_before out_after status

@@ -1,5 +1,5 @@
 -- A source that is compiled, and the file that its module is written to: our own choice.
-use Rattle.std.specs.Prelude.{◌≡◌, ◌⊎◌, ⊤, ℕ, Bool, true, List, ◌++◌, codes, length, Option, Some, Result, Ok, Err, IfSome}
+use Rattle.std.specs.Prelude.{◌≡◌, ◌⊎◌, ⊤, ℕ, Bool, true, List, ◌++◌, codes, length, Some, Result, Ok, Err, IfSome}
 use Rattle.std.specs.Prelude.{string_bytes}
 use Rattle.std.specs.Io.KnownBytes.{Appends}
 use Rattle.command_line.specs.Words.{Text}
@@ -17,13 +17,13 @@ use Rattle.module_builder.specs.declared.fault.GenFault.TheVariants as generatio
 use Rattle.compiler.specs.declared.source.CompileFault.{CompileFault}
 use Rattle.compiler.specs.declared.source.CompileFault.TheVariants as faults
 use Rattle.compiler.specs.Compiled.{HasLines, IsCompiled, IsRefusedFor}
-use Rattle.tpm_actions.specs.declared.files.FileFault.{FileFault}
 use Rattle.tpm_actions.specs.declared.files.FileFault.TheVariants as file_faults
 use Rattle.tpm_actions.specs.declared.refused.RefusedSource.{RefusedSource}
 use Rattle.tpm_actions.specs.declared.report.Report.TheVariants.{Compiled}
 use Rattle.tpm_actions.specs.declared.report.Failure.{Failure}
 use Rattle.tpm_actions.specs.declared.report.Failure.TheVariants as failures
 use Rattle.tpm_actions.specs.Texts.{report_line}
+use Rattle.tpm_actions.specs.Storage.{Storage}
 
 -- The source has lines that are no program, of which this is written.
 pub record IsParseReason (path : Text) (source : List ℕ) (fault : ParseFault) (text : Text) : Type 0 where
@@ -79,16 +79,15 @@ pub record IsRefusedAs (path : Text) (source : List ℕ) (why : RefusedSource) :
   pub refused_for : IsRefusedFor source why.fault
   pub reason : IfSome why.reason (λ text. IsReason path source why.fault (string_bytes text))
 
-module _ {F W : Type 0} (creates : F → Text → Result W FileFault → F → Type 0) (closes : F → W → Bool → F → Type 0)
-    (written : W → Option (List ℕ)) where
+module _ {F R W : Type 0} (storage : Storage F R W) where
   -- The file of this path was created, a writer was given bytes to write, and then it was closed.
   pub record IsWritten (path : Text) (bytes : List ℕ) (before after : F) : Type 0 where
     pub writer : W
     pub created : F
     pub full : W
-    pub creates_it : creates before path (Ok writer) created
-    pub appends : Appends (written writer) (written full) bytes
-    pub closes_it : closes created full true after
+    pub creates_it : storage.calls.creates before path (Ok writer) created
+    pub appends : Appends (storage.written writer) (storage.written full) bytes
+    pub closes_it : storage.calls.closes created full true after
 
   -- The file of this path was created. A writer failed, or could not be closed.
   pub record IsUnwritten (path : Text) (before after : F) : Type 0 where
@@ -96,16 +95,17 @@ module _ {F W : Type 0} (creates : F → Text → Result W FileFault → F → T
     pub created : F
     pub last : W
     pub closed : Bool
-    pub creates_it : creates before path (Ok writer) created
-    pub closes_it : closes created last closed after
+    pub creates_it : storage.calls.creates before path (Ok writer) created
+    pub closes_it : storage.calls.closes created last closed after
 
   -- what became of the file of this path
   abbrev pub Writes : Text → List ℕ → F → F → Result ⊤ Failure → Type 0
   Writes path bytes before after (Ok _) = IsWritten path bytes before after
   Writes path bytes before after (Err (failures.Uncreated told)) =
       (told.now ≡ path)
-      × (creates before path (Err file_faults.Failed) after ⊎ IsUnwritten path before after)
-  Writes path bytes before after (Err failures.Memory) = creates before path (Err file_faults.Memory) after
+      × (storage.calls.creates before path (Err file_faults.Failed) after ⊎ IsUnwritten path before after)
+  Writes path bytes before after (Err failures.Memory) =
+      storage.calls.creates before path (Err file_faults.Memory) after
   Writes path bytes before after (Err failure) = ⊥
 
   -- The source was compiled, and what became of the file is this.

@@ -1,9 +1,7 @@
 -- A run on the machine that checks each rule, of what is in a file: our own choice.
-use Rattle.std.specs.Prelude.{◌≡◌, ◌⊎◌, ⊤, ℕ, Bool, true, false, is_some, min, if◌then◌else◌, List, [], ◌∷◌, ◌++◌}
-use Rattle.std.specs.Prelude.{nat_eq, take, Option, Some, None, option_and_then, unwrap_or, Result, Ok, Err}
-use Rattle.std.specs.List.{starts_with}
+use Rattle.std.specs.Prelude.{◌≡◌, ◌⊎◌, ⊤, ℕ, Bool, true, false, is_some, min, if◌then◌else◌, List, [], ◌∷◌}
+use Rattle.std.specs.Prelude.{Option, Some, None, option_and_then, unwrap_or, Result, Ok, Err}
 use Rattle.module_format.specs.Contents.{Contents}
-use Rattle.module_format.specs.Keeping.{Format}
 use Rattle.machine_state.specs.declared.fault.Fault.{Fault}
 use Rattle.machine_state.specs.declared.link.Link.{Link}
 use Rattle.machine_state.specs.Happens.{most_executed}
@@ -24,19 +22,18 @@ use Rattle.waiting_texts.specs.declared.setting.Setting.{Setting}
 use Rattle.waiting_texts.specs.Resting.{IsWorldOf}
 use Rattle.source_lines.specs.declared.entry.LineEntry.{LineEntry}
 use Rattle.waiting_texts.specs.Lines.{TellsWaits}
-use Rattle.compiler.specs.Compiled.{IsCompiled}
 use Rattle.command_line.specs.Words.{Text}
 use Rattle.command_line.specs.Fitting.{number_in}
 use Rattle.command_line.specs.declared.links.OnLinks.{OnLinks}
 use Rattle.tpm_actions.specs.declared.debugging.Ending.{Ending}
 use Rattle.tpm_actions.specs.declared.debugging.Ending.TheVariants as endings
-use Rattle.tpm_actions.specs.declared.files.FileFault.{FileFault}
 use Rattle.tpm_actions.specs.declared.files.FileFault.TheVariants as file_faults
 use Rattle.tpm_actions.specs.declared.report.Failure.{Failure}
 use Rattle.tpm_actions.specs.declared.report.Failure.TheVariants as failures
 use Rattle.tpm_actions.specs.FilesInOrder.{in_order, GivesAll, FailsAtPath, ClosesAll}
 use Rattle.tpm_actions.specs.FilesOnLinks.{first_unclosed}
 use Rattle.tpm_actions.specs.RunTexts.{debug_text}
+use Rattle.tpm_actions.specs.Storage.{Storage}
 
 -- how many bytes are executed at most: the number that is given, or else the budget
 abbrev pub limit_of : Contents → Option Text → ℕ
@@ -84,16 +81,15 @@ pub record TellsRun (m : Contents) (lines : List LineEntry) (inputs outputs : On
   pub tells : TellsWaits m lines (setting_of inputs outputs ending) w waits
   pub told : text ≡ debug_text ending inputs outputs (report_at w tally) waits
 
-module _ {F R W : Type 0} (creates : F → Text → Result W FileFault → F → Type 0) (left : R → Option (List ℕ))
-    (read_failed : R → Bool) (written : W → Option (List ℕ)) (write_failed : W → Bool) (m : Contents)
-    (outputs : OnLinks (Option Text)) (before after : F) (readers readers_after : List (Option R))
-    (writers_after : List (Option W)) (machine : BoundedExecution) (tally : Tally) where
+module _ {F R W : Type 0} (storage : Storage F R W) (m : Contents) (outputs : OnLinks (Option Text)) (before after : F)
+    (readers readers_after : List (Option R)) (writers_after : List (Option W)) (machine : BoundedExecution)
+    (tally : Tally) where
   -- The output files were created, and the machine ran with them and these readers.
   pub record DrivesWithCreated (result : Result ⊤ (Halt Cause)) : Type 0 where
     pub writers : List (Option W)
-    pub creates_all : GivesAll creates before (in_order outputs) writers after
-    pub drives : Drives left read_failed written write_failed m readers readers_after writers writers_after result tally
-        (Shows machine) (HasStopped machine)
+    pub creates_all : GivesAll storage.calls.creates before (in_order outputs) writers after
+    pub drives : Drives storage.left storage.read_failed storage.written storage.write_failed m readers readers_after
+        writers writers_after result tally (Shows machine) (HasStopped machine)
 
   -- An output file was not created, a link failed, or the run came to this ending.
   abbrev pub CreatesAndDrives : Result Ending Failure → Type 0
@@ -106,25 +102,22 @@ module _ {F R W : Type 0} (creates : F → Text → Result W FileFault → F →
   CreatesAndDrives (Err (failures.NotUpgraded fault)) = ⊥
   CreatesAndDrives (Err (failures.Unread path)) = ⊥
   CreatesAndDrives (Err (failures.Uncreated path)) =
-      FailsAtPath creates before (in_order outputs) writers_after path.now file_faults.Failed after
+      FailsAtPath storage.calls.creates before (in_order outputs) writers_after path.now file_faults.Failed after
   CreatesAndDrives (Err (failures.ReadFailed link)) = DrivesWithCreated (Err (halts.ReadFailed link))
   CreatesAndDrives (Err (failures.WriteFailed link)) = DrivesWithCreated (Err (halts.WriteFailed link))
   CreatesAndDrives (Err failures.Unwritten) = ⊥
   CreatesAndDrives (Err failures.Memory) = ⊤
 
-module _ {F R W : Type 0} (creates : F → Text → Result W FileFault → F → Type 0) (closes : F → W → Bool → F → Type 0)
-    (left : R → Option (List ℕ)) (read_failed : R → Bool) (written : W → Option (List ℕ)) (write_failed : W → Bool)
-    (m : Contents) (outputs : OnLinks (Option Text)) (before after : F) (readers : List (Option R))
-    (machine : BoundedExecution) (tally : Tally) where
+module _ {F R W : Type 0} (storage : Storage F R W) (m : Contents) (outputs : OnLinks (Option Text)) (before after : F)
+    (readers : List (Option R)) (machine : BoundedExecution) (tally : Tally) where
   -- The output files were created, and the machine ran, which came to this. Then they were closed, of which it is said
   -- whether that succeeded.
   pub record DrivesAndCloses (result : Result Ending Failure) (closed : ByLink Bool) : Type 0 where
     pub readers_after : List (Option R)
     pub writers_after : List (Option W)
     pub ran : F
-    pub drives : CreatesAndDrives creates left read_failed written write_failed m outputs before ran readers
-        readers_after writers_after machine tally result
-    pub closes_all : ClosesAll closes ran writers_after closed after
+    pub drives : CreatesAndDrives storage m outputs before ran readers readers_after writers_after machine tally result
+    pub closes_all : ClosesAll storage.calls.closes ran writers_after closed after
 
   -- The run came to this ending, and all files were closed.
   abbrev pub Ends : Ending → Type 0
@@ -155,17 +148,14 @@ module _ {F R W : Type 0} (creates : F → Text → Result W FileFault → F →
   DrivesOpened (Err failures.Unwritten) = ⊥
   DrivesOpened (Err failures.Memory) = ⊤
 
-module _ {F R W : Type 0} (opens : F → Text → Result R FileFault → F → Type 0)
-    (creates : F → Text → Result W FileFault → F → Type 0) (closes : F → W → Bool → F → Type 0)
-    (left : R → Option (List ℕ)) (read_failed : R → Bool) (written : W → Option (List ℕ)) (write_failed : W → Bool)
-    (m : Contents) (inputs outputs : OnLinks (Option Text)) (bytes : Option Text) (before after : F) where
+module _ {F R W : Type 0} (storage : Storage F R W) (m : Contents) (inputs outputs : OnLinks (Option Text))
+    (bytes : Option Text) (before after : F) where
   -- The input files were opened, and what was done with them came to this.
   pub record OpensAndDrives (machine : BoundedExecution) (tally : Tally) (result : Result Ending Failure) : Type 0 where
     pub readers : List (Option R)
     pub opened : F
-    pub opens_all : GivesAll opens before (in_order inputs) readers opened
-    pub drives : DrivesOpened creates closes left read_failed written write_failed m outputs opened after readers machine
-        tally result
+    pub opens_all : GivesAll storage.calls.opens before (in_order inputs) readers opened
+    pub drives : DrivesOpened storage m outputs opened after readers machine tally result
 
   -- The run came to this ending, up to this number of bytes, and this text reports it with the lines of these entries.
   pub record HasRunTo (lines : List LineEntry) (ending : Ending) (text : Text) : Type 0 where
@@ -189,7 +179,8 @@ module _ {F R W : Type 0} (opens : F → Text → Result R FileFault → F → T
   StopsRun (failures.Uncompiled fault) = ⊥
   StopsRun (failures.NotUpgraded fault) = ⊥
   StopsRun (failures.Unread path) =
-      (readers : List (Option R)) × FailsAtPath opens before (in_order inputs) readers path.now file_faults.Failed after
+      (readers : List (Option R)) × FailsAtPath storage.calls.opens before (in_order inputs) readers path.now
+      file_faults.Failed after
   StopsRun (failures.Uncreated path) = Fails (failures.Uncreated path)
   StopsRun (failures.ReadFailed link) = Fails (failures.ReadFailed link)
   StopsRun (failures.WriteFailed link) = Fails (failures.WriteFailed link)

@@ -1,5 +1,5 @@
 -- What becomes of a run with files on the links.
-use Rattle.std.specs.Prelude.{◌≡◌, ◌⊎◌, ℕ, Bool, not, List, Option, Some, None, Result, Ok, Err}
+use Rattle.std.specs.Prelude.{◌≡◌, ◌⊎◌, Bool, not, List, Option, Some, None, Result, Ok, Err}
 use Rattle.command_line.specs.Words.{Text}
 use Rattle.command_line.specs.declared.links.OnLinks.{OnLinks}
 use Rattle.module_format.specs.Contents.{Contents}
@@ -14,26 +14,27 @@ use Rattle.tpm_actions.specs.declared.files.FileFault.TheVariants as file_faults
 use Rattle.tpm_actions.specs.declared.report.Failure.{Failure}
 use Rattle.tpm_actions.specs.declared.report.Failure.TheVariants as failures
 use Rattle.tpm_actions.specs.FilesInOrder.{in_order, GivesAll, FailsAtPath, ClosesAll}
+use Rattle.tpm_actions.specs.Storage.{Storage}
 
 -- the first link whose writer could not be closed
 abbrev pub first_unclosed : ByLink Bool → Option Link
 first_unclosed closed = first_link (λ link. not (of_link closed link))
 
-module _ {F R W : Type 0} (creates : F → Text → Result W FileFault → F → Type 0) (left : R → Option (List ℕ))
-    (read_failed : R → Bool) (written : W → Option (List ℕ)) (write_failed : W → Bool) (m : Contents)
-    (outputs : OnLinks (Option Text)) (before after : F) (readers readers_after : List (Option R))
-    (writers_after : List (Option W)) where
+module _ {F R W : Type 0} (storage : Storage F R W) (m : Contents) (outputs : OnLinks (Option Text)) (before after : F)
+    (readers readers_after : List (Option R)) (writers_after : List (Option W)) where
   -- The output files were created, and the module ran with them and these readers, until nothing was left to do or a
   -- link failed.
   pub record RunsWithCreated (result : Result Report RunError) : Type 0 where
     pub writers : List (Option W)
-    pub creates_all : GivesAll creates before (in_order outputs) writers after
-    pub runs : Runs left read_failed written write_failed m readers readers_after writers writers_after result
-    pub known : RunsWith left read_failed written write_failed m readers readers_after writers writers_after result
+    pub creates_all : GivesAll storage.calls.creates before (in_order outputs) writers after
+    pub runs : Runs storage.left storage.read_failed storage.written storage.write_failed m readers readers_after
+        writers writers_after result
+    pub known : RunsWith storage.left storage.read_failed storage.written storage.write_failed m readers readers_after
+        writers writers_after result
 
   -- An output file was not created.
   abbrev pub FailsToCreate : Text → FileFault → Type 0
-  FailsToCreate path fault = FailsAtPath creates before (in_order outputs) writers_after path fault after
+  FailsToCreate path fault = FailsAtPath storage.calls.creates before (in_order outputs) writers_after path fault after
 
   -- memory ran out for an output file, or in the run
   abbrev pub StopsForMemory : Type 0
@@ -54,18 +55,16 @@ module _ {F R W : Type 0} (creates : F → Text → Result W FileFault → F →
   CreatesAndRuns (Err failures.Unwritten) = ⊥
   CreatesAndRuns (Err failures.Memory) = StopsForMemory
 
-module _ {F R W : Type 0} (creates : F → Text → Result W FileFault → F → Type 0) (closes : F → W → Bool → F → Type 0)
-    (left : R → Option (List ℕ)) (read_failed : R → Bool) (written : W → Option (List ℕ)) (write_failed : W → Bool)
-    (m : Contents) (outputs : OnLinks (Option Text)) (before after : F) (readers : List (Option R)) where
+module _ {F R W : Type 0} (storage : Storage F R W) (m : Contents) (outputs : OnLinks (Option Text)) (before after : F)
+    (readers : List (Option R)) where
   -- The output files were created, and the module ran, which came to this. Then they were closed, of which it is said
   -- whether that succeeded.
   pub record RunsAndCloses (result : Result Report Failure) (closed : ByLink Bool) : Type 0 where
     pub readers_after : List (Option R)
     pub writers_after : List (Option W)
     pub ran : F
-    pub runs : CreatesAndRuns creates left read_failed written write_failed m outputs before ran readers readers_after
-        writers_after result
-    pub closes_all : ClosesAll closes ran writers_after closed after
+    pub runs : CreatesAndRuns storage m outputs before ran readers readers_after writers_after result
+    pub closes_all : ClosesAll storage.calls.closes ran writers_after closed after
 
   -- The run came to an end, and all files were closed.
   abbrev pub Finishes : Report → Type 0
@@ -96,21 +95,19 @@ module _ {F R W : Type 0} (creates : F → Text → Result W FileFault → F →
   RunsOpened (Err failures.Unwritten) = ⊥
   RunsOpened (Err failures.Memory) = Stops failures.Memory
 
-module _ {F R W : Type 0} (opens : F → Text → Result R FileFault → F → Type 0)
-    (creates : F → Text → Result W FileFault → F → Type 0) (closes : F → W → Bool → F → Type 0)
-    (left : R → Option (List ℕ)) (read_failed : R → Bool) (written : W → Option (List ℕ)) (write_failed : W → Bool)
-    (m : Contents) (inputs outputs : OnLinks (Option Text)) (before after : F) where
+module _ {F R W : Type 0} (storage : Storage F R W) (m : Contents) (inputs outputs : OnLinks (Option Text))
+    (before after : F) where
   -- The input files were opened, and what was done with them came to this.
   pub record OpensAndRuns (result : Result Report Failure) : Type 0 where
     pub readers : List (Option R)
     pub opened : F
-    pub opens_all : GivesAll opens before (in_order inputs) readers opened
-    pub runs : RunsOpened creates closes left read_failed written write_failed m outputs opened after readers result
+    pub opens_all : GivesAll storage.calls.opens before (in_order inputs) readers opened
+    pub runs : RunsOpened storage m outputs opened after readers result
 
   -- An input file was not opened.
   abbrev pub FailsToOpen : Text → FileFault → Type 0
   FailsToOpen path fault =
-      (readers : List (Option R)) × FailsAtPath opens before (in_order inputs) readers path fault after
+      (readers : List (Option R)) × FailsAtPath storage.calls.opens before (in_order inputs) readers path fault after
 
   abbrev pub RunsTo : Result Report Failure → Type 0
   RunsTo (Ok report) = OpensAndRuns (Ok report)

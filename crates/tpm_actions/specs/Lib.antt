@@ -1,6 +1,8 @@
 pub mod Texts
 pub mod RunTexts
+pub mod FileCalls
 pub mod FilesInOrder
+pub mod Storage
 pub mod FilesOnLinks
 pub mod Debugging
 pub mod Programs

@@ -1,5 +1,5 @@
 -- The run of a module or a source on the machine that checks each rule: our own choice.
-use Rattle.std.specs.Prelude.{◌≡◌, ⊤, ℕ, Bool, true, false, List, [], Option, Result, string_bytes}
+use Rattle.std.specs.Prelude.{◌≡◌, ⊤, ℕ, true, false, List, [], Option, string_bytes}
 use Rattle.module_format.specs.Contents.{Contents}
 use Rattle.module_format.specs.Keeping.{Format}
 use Rattle.compiler.specs.Compiled.{IsCompiled, IsRefusedFor}
@@ -9,12 +9,12 @@ use Rattle.command_line.specs.Words.{Text}
 use Rattle.command_line.specs.declared.links.OnLinks.{OnLinks}
 use Rattle.tpm_actions.specs.declared.debugging.Ending.{Ending}
 use Rattle.tpm_actions.specs.declared.debugging.Ending.TheVariants as endings
-use Rattle.tpm_actions.specs.declared.files.FileFault.{FileFault}
 use Rattle.tpm_actions.specs.declared.report.Failure.{Failure}
 use Rattle.tpm_actions.specs.declared.report.Failure.TheVariants as failures
 use Rattle.tpm_actions.specs.Debugging.{HasRunTo, StopsRun}
 use Rattle.tpm_actions.specs.Extents.{begins_as_module}
 use Rattle.tpm_actions.specs.Malformed.{IsMalformed}
+use Rattle.tpm_actions.specs.Storage.{Storage}
 
 -- a module, and which lines of its source its code comes from, if it has one
 pub record LinedModule : Type 0 where
@@ -42,15 +42,12 @@ IsUnharmed endings.Over = ⊤
 IsUnharmed endings.Cut = ⊤
 IsUnharmed (endings.Faulted fault) = ⊥
 
-module _ {F R W : Type 0} (opens : F → Text → Result R FileFault → F → Type 0)
-    (creates : F → Text → Result W FileFault → F → Type 0) (closes : F → W → Bool → F → Type 0)
-    (left : R → Option (List ℕ)) (read_failed : R → Bool) (written : W → Option (List ℕ)) (write_failed : W → Bool)
-    (inputs outputs : OnLinks (Option Text)) (limit : Option Text) (before after : F) where
+module _ {F R W : Type 0} (storage : Storage F R W) (inputs outputs : OnLinks (Option Text)) (limit : Option Text)
+    (before after : F) where
   -- The module's run came to this ending, which this text reports.
   abbrev pub EndsAs : LinedModule → Ending → Text → Type 0
   EndsAs m ending text =
-      HasRunTo opens creates closes left read_failed written write_failed m.contents inputs outputs limit before after
-      m.lines ending text
+      HasRunTo storage m.contents inputs outputs limit before after m.lines ending text
 
   -- The module's run came to no fault, and this text reports it.
   pub record TellsModule (m : LinedModule) (text : Text) : Type 0 where
@@ -62,8 +59,7 @@ module _ {F R W : Type 0} (opens : F → Text → Result R FileFault → F → T
   abbrev pub WithholdsRun : LinedModule → Failure → Type 0
   WithholdsRun m (failures.Faulted fault text) = EndsAs m (endings.Faulted fault.fault) (string_bytes text)
   WithholdsRun m failure =
-      StopsRun opens creates closes left read_failed written write_failed m.contents inputs outputs limit before after
-      failure
+      StopsRun storage m.contents inputs outputs limit before after failure
 
   abbrev pub TellsProgram : List ℕ → Text → Type 0
   TellsProgram bytes text = IsProgramWith bytes (λ m. TellsModule m text)

@@ -1,18 +1,18 @@
 -- A module file of version 1, and the file that it is written to in version 2: our own choice.
-use Rattle.std.specs.Prelude.{◌≡◌, ◌⊎◌, ⊤, ℕ, Bool, List, length, Option, Result, Ok, Err}
+use Rattle.std.specs.Prelude.{◌≡◌, ◌⊎◌, ⊤, ℕ, List, length, Result, Ok, Err}
 use Rattle.command_line.specs.Words.{Text}
 use Rattle.module_format.specs.declared.tables.Version.TheVariants as versions
 use Rattle.module_format.specs.Contents.{Contents}
 use Rattle.module_format.specs.Keeping.{IsFile, IsUpgraded}
 use Rattle.verifier.specs.declared.upgrading.UpgradeFault.{UpgradeFault}
 use Rattle.verifier.specs.declared.upgrading.UpgradeFault.TheVariants as upgrade_faults
-use Rattle.tpm_actions.specs.declared.files.FileFault.{FileFault}
 use Rattle.tpm_actions.specs.declared.report.Report.TheVariants.{Upgraded}
 use Rattle.tpm_actions.specs.declared.report.Failure.{Failure}
 use Rattle.tpm_actions.specs.declared.report.Failure.TheVariants as failures
 use Rattle.tpm_actions.specs.Compiling.{IsWritten, Writes}
 use Rattle.tpm_actions.specs.Malformed.{IsMalformed}
 use Rattle.tpm_actions.specs.Texts.{report_line}
+use Rattle.tpm_actions.specs.Storage.{Storage}
 
 -- The bytes are a module file of version 2 already; or of version 1, and memory ran out.
 abbrev pub IsRefusedUpgrade : List ℕ → UpgradeFault → Type 0
@@ -25,20 +25,19 @@ RefusesUpgrade old (failures.Malformed fault) = IsMalformed old fault
 RefusesUpgrade old (failures.NotUpgraded fault) = IsRefusedUpgrade old fault
 RefusesUpgrade old failure = ⊥
 
-module _ {F W : Type 0} (creates : F → Text → Result W FileFault → F → Type 0) (closes : F → W → Bool → F → Type 0)
-    (written : W → Option (List ℕ)) where
+module _ {F R W : Type 0} (storage : Storage F R W) where
   -- The module was upgraded, and what became of the file is this.
   pub record UpgradesAndWrites (old : List ℕ) (path : Text) (before after : F) (result : Result ⊤ Failure) :
       Type 0 where
     pub bytes : List ℕ
     pub upgraded : IsUpgraded old bytes
-    pub writes : Writes creates closes written path bytes before after result
+    pub writes : Writes storage path bytes before after result
 
   -- The module was upgraded, its file was written, and this text reports how long it is.
   pub record HasUpgraded (old : List ℕ) (path : Text) (before after : F) (text : Text) : Type 0 where
     pub bytes : List ℕ
     pub upgraded : IsUpgraded old bytes
-    pub writes : IsWritten creates closes written path bytes before after
+    pub writes : IsWritten storage path bytes before after
     pub told : text ≡ report_line (Upgraded (length bytes))
 
   -- why nothing is reported about a module that was to be upgraded

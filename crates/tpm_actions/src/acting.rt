@@ -3,13 +3,13 @@
 ghost use Rattle.std.specs.Prelude.{◌≡◌, ℕ, true, false, List, MatchResult, string_bytes, option_map};
 ghost use Rattle.command_line.specs.Words.{words_of};
 ghost use Rattle.command_line.specs.Links.{paths_of};
-ghost use Rattle.tpm_actions.specs.FilesInOrder.{inside};
 ghost use Rattle.command_line.specs.Asked.{asked_about, asked_of, path_of, runs};
 ghost use Rattle.tpm_actions.specs.Extents.{begins_as_module, extent_of};
 ghost use Rattle.tpm_actions.specs.Texts.{misuse_status, status_of};
 ghost use Rattle.tpm_actions.specs.Acting.{Acts, Answers, HasRun, IsAccepted, IsTold, IsHindered, Performs, Tells};
 ghost use Rattle.tpm_actions.specs.Acting.{TellsOf, WithholdsOf, WithholdsVerdict};
 ghost use Rattle.tpm_actions.specs.Streams.{has_stream, is_stream_given, sends_out, shown_of};
+ghost use Rattle.tpm_actions.specs.Storage.{storage_of};
 
 use crate::compiling::compile_to_file;
 use crate::debugging::Debugging;
@@ -49,13 +49,11 @@ fn outcome<'a, F: Files>(
     outputs: LinkPaths<'a>,
     files: &mut F,
 ) -> Result<String, Failure<'a>>
-    ensures { let ins = paths_of inputs.entry in let outs = paths_of outputs.entry in
+    ensures { let storage = storage_of F.calls F.Reader.left F.Reader.failed F.Writer.written F.Writer.failed in
+        let ins = paths_of inputs.entry in let outs = paths_of outputs.entry in
         MatchResult result
-        (λ text. HasRun F.opens F.creates F.closes (inside F.Reader.left) (inside F.Reader.failed)
-        (inside F.Writer.written) (inside F.Writer.failed)
-        «module».now ins outs files.old files.new (string_bytes text))
-        (λ failure. (path : List ℕ) → WithholdsOf F.opens F.creates F.closes (inside F.Reader.left)
-        (inside F.Reader.failed) (inside F.Writer.written) (inside F.Writer.failed) «module».now
+        (λ text. HasRun storage «module».now ins outs files.old files.new (string_bytes text))
+        (λ failure. (path : List ℕ) → WithholdsOf storage «module».now
         (runs path ins outs) files.old files.new failure) }
 {
     let verified = verify(alloc, module)?;
@@ -70,13 +68,10 @@ fn reply<'a, F: Files>(
     question: Question<'a>,
     files: &mut F,
 ) -> Result<String, Failure<'a>>
-    ensures { (path : List ℕ) → MatchResult result
-        (λ text. TellsOf F.opens F.creates F.closes (inside F.Reader.left) (inside F.Reader.failed)
-        (inside F.Writer.written) (inside F.Writer.failed)
-        «module».now (asked_about path question.entry) files.old files.new (string_bytes text))
-        (WithholdsOf F.opens F.creates F.closes (inside F.Reader.left) (inside F.Reader.failed)
-        (inside F.Writer.written) (inside F.Writer.failed)
-        «module».now (asked_about path question.entry) files.old files.new) }
+    ensures { let storage = storage_of F.calls F.Reader.left F.Reader.failed F.Writer.written F.Writer.failed in
+        (path : List ℕ) → MatchResult result
+        (λ text. TellsOf storage «module».now (asked_about path question.entry) files.old files.new (string_bytes text))
+        (WithholdsOf storage «module».now (asked_about path question.entry) files.old files.new) }
 {
     match question {
         Question::Verdict => verdict(alloc, module),
@@ -105,14 +100,11 @@ fn ask<'a, F: Files>(
     question: Question<'a>,
     files: &mut F,
 ) -> Result<String, Failure<'a>>
-    ensures { let asked = asked_about path.now question.entry in
+    ensures { let storage = storage_of F.calls F.Reader.left F.Reader.failed F.Writer.written F.Writer.failed in
+        let asked = asked_about path.now question.entry in
         MatchResult result
-        (λ text. IsTold F.opens F.creates F.closes (inside F.Reader.left) (inside F.Reader.failed)
-        (inside F.Writer.written) (inside F.Writer.failed)
-        bytes.now asked files.old files.new (string_bytes text))
-        (IsHindered F.opens F.creates F.closes (inside F.Reader.left) (inside F.Reader.failed)
-        (inside F.Writer.written) (inside F.Writer.failed)
-        bytes.now asked files.old files.new) }
+        (λ text. IsTold storage bytes.now asked files.old files.new (string_bytes text))
+        (IsHindered storage bytes.now asked files.old files.new) }
 {
     if is_source_explained(bytes, question) {
         return explain_source(alloc, path, bytes);
@@ -131,14 +123,11 @@ fn judge<'a, F: Files, T: Write + Drop>(
     files: &mut F,
     trace: T,
 ) -> Result<String, Failure<'a>>
-    ensures { let asked = asked_of line.entry in
+    ensures { let storage = storage_of F.calls F.Reader.left F.Reader.failed F.Writer.written F.Writer.failed in
+        let asked = asked_of line.entry in
         MatchResult result
-        (λ text. IsTold F.opens F.creates F.closes (inside F.Reader.left) (inside F.Reader.failed)
-        (inside F.Writer.written) (inside F.Writer.failed)
-        bytes.now asked files.old files.new (string_bytes text))
-        (IsHindered F.opens F.creates F.closes (inside F.Reader.left) (inside F.Reader.failed)
-        (inside F.Writer.written) (inside F.Writer.failed)
-        bytes.now asked files.old files.new) }
+        (λ text. IsTold storage bytes.now asked files.old files.new (string_bytes text))
+        (IsHindered storage bytes.now asked files.old files.new) }
 {
     match line {
         Line::Compile { source, out } => compile_to_file(alloc, source, bytes, out, files),
@@ -199,8 +188,8 @@ fn answer<'a, F: Files, T: Write + Drop>(
     files: &mut F,
     trace: T,
 ) -> Result<String, Failure<'a>>
-    ensures { let answers = Answers F.opens F.creates F.closes (inside F.Reader.left) (inside F.Reader.failed)
-        (inside F.Writer.written) (inside F.Writer.failed) F.reads (asked_of line.entry) files.old files.new in
+    ensures { let storage = storage_of F.calls F.Reader.left F.Reader.failed F.Writer.written F.Writer.failed in
+        let answers = Answers storage (asked_of line.entry) files.old files.new in
         MatchResult result (λ text. answers (Ok (string_bytes text))) (λ failure. answers (Err failure)) }
 {
     let path = read_path(line);
@@ -273,9 +262,8 @@ fn perform<'a, F: Files, O: Write, E: Write, T: Write + Drop>(
     err: &mut E,
     trace: T,
 ) -> Result<(), Failure<'a>>
-    ensures { Performs F.opens F.creates F.closes (inside F.Reader.left) (inside F.Reader.failed)
-        (inside F.Writer.written) (inside F.Writer.failed)
-        F.reads (asked_of line.entry) files.old files.new (O.contents out.old) (O.contents out.new) result }
+    ensures { let storage = storage_of F.calls F.Reader.left F.Reader.failed F.Writer.written F.Writer.failed in
+        Performs storage (asked_of line.entry) files.old files.new (O.contents out.old) (O.contents out.new) result }
 {
     match answer(alloc, line, files, trace) {
         Ok(text) => report(&text, line, out, err),
@@ -323,9 +311,8 @@ pub fn act<'a, F: Files, O: Write, E: Write, T: Write + Drop>(
     err: &mut E,
     trace: T,
 ) -> u8
-    ensures { Acts F.opens F.creates F.closes (inside F.Reader.left) (inside F.Reader.failed)
-        (inside F.Writer.written) (inside F.Writer.failed)
-        F.reads (words_of words.entry.now) files.old files.new (O.contents out.old) (O.contents out.new) result }
+    ensures { let storage = storage_of F.calls F.Reader.left F.Reader.failed F.Writer.written F.Writer.failed in
+        Acts storage (words_of words.entry.now) files.old files.new (O.contents out.old) (O.contents out.new) result }
 {
     match line(alloc, words) {
         Ok(line) => match perform(alloc, line, files, out, err, trace) {

@@ -2,7 +2,7 @@
 
 ghost use Rattle.std.specs.Prelude.{MatchResult, string_bytes};
 ghost use Rattle.tpm_actions.specs.Compiling.{HasCompiled, WithholdsModule, Writes};
-ghost use Rattle.tpm_actions.specs.FilesInOrder.{inside};
+ghost use Rattle.tpm_actions.specs.Storage.{storage_of};
 
 use crate::files::{FileFault, Files};
 use crate::refused::refused_source;
@@ -17,7 +17,8 @@ pub fn write_file<'a, F: Files>(
     bytes: &[u8],
     files: &mut F,
 ) -> Result<(), Failure<'a>>
-    ensures { Writes F.creates F.closes (inside F.Writer.written) path.entry.now bytes.now files.old files.new result }
+    ensures { let storage = storage_of F.calls F.Reader.left F.Reader.failed F.Writer.written F.Writer.failed in
+        Writes storage path.entry.now bytes.now files.old files.new result }
 {
     let mut writer = match files.create(path) {
         Ok(writer) => writer,
@@ -41,11 +42,11 @@ pub fn compile_to_file<'a, F: Files>(
     out: &'a str,
     files: &mut F,
 ) -> Result<String, Failure<'a>>
-    ensures { MatchResult result
-        (λ text. HasCompiled F.creates F.closes (inside F.Writer.written) source.now out.entry.now files.old files.new
+    ensures { let storage = storage_of F.calls F.Reader.left F.Reader.failed F.Writer.written F.Writer.failed in
+        MatchResult result
+        (λ text. HasCompiled storage source.now out.entry.now files.old files.new
         (string_bytes text))
-        (WithholdsModule F.creates F.closes (inside F.Writer.written) path.now source.now out.entry.now files.old
-        files.new) }
+        (WithholdsModule storage path.now source.now out.entry.now files.old files.new) }
 {
     let module = match compile(alloc, source) {
         Ok(module) => module,

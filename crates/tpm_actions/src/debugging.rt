@@ -1,7 +1,6 @@
 //! The run of a module or a source on the machine that checks each rule.
 
 ghost use Rattle.std.specs.Prelude.{◌≡◌, ◌∷◌, [], None, option_map, MatchResult, IfOk, string_bytes};
-ghost use Rattle.module_format.specs.Contents.{contents_of};
 ghost use Rattle.machine_state.specs.World.{loaded};
 ghost use Rattle.link_runner.specs.Readers.{NoneFailed, tally_at_start};
 ghost use Rattle.machine.specs.Bounding.{Shows, HasStopped};
@@ -9,6 +8,7 @@ ghost use Rattle.command_line.specs.Links.{paths_of};
 ghost use Rattle.tpm_actions.specs.FilesInOrder.{inside};
 ghost use Rattle.tpm_actions.specs.Debugging.{CreatesAndDrives, DrivesOpened, IsKnown, TellsRun, given_of, is_over, limit_of};
 ghost use Rattle.tpm_actions.specs.Debugging.{setting_of, report_at, HasRunTo, StopsRun};
+ghost use Rattle.tpm_actions.specs.Storage.{storage_of};
 
 use crate::files::Files;
 use crate::report::Failure;
@@ -103,9 +103,9 @@ fn create_and_drive<'a, 'm, F: Files, O: Observer>(
     requires readers { NoneFailed (inside F.Reader.failed) readers.old }
     requires writers { writers.old ≡ None ∷ None ∷ None ∷ None ∷ [] }
     requires tally { tally.old ≡ tally_at_start readers.old }
-    ensures drives { CreatesAndDrives F.creates (inside F.Reader.left) (inside F.Reader.failed)
-        (inside F.Writer.written) (inside F.Writer.failed) machine.old.contents (paths_of outputs.entry) files.old
-        files.new readers.old readers.new writers.new machine.new tally.new result }
+    ensures drives { let storage = storage_of F.calls F.Reader.left F.Reader.failed F.Writer.written F.Writer.failed in
+        CreatesAndDrives storage machine.old.contents (paths_of outputs.entry) files.old files.new readers.old
+        readers.new writers.new machine.new tally.new result }
     ensures limit { machine.new.limit ≡ machine.old.limit }
 {
     create_all(files, outputs, writers)?;
@@ -131,9 +131,9 @@ fn drive_opened<'a, 'm, F: Files, O: Observer>(
     requires loaded { Shows machine.old (loaded machine.old.contents) }
     requires readers { NoneFailed (inside F.Reader.failed) readers.old }
     requires tally { tally.old ≡ tally_at_start readers.old }
-    ensures drives { DrivesOpened F.creates F.closes (inside F.Reader.left) (inside F.Reader.failed)
-        (inside F.Writer.written) (inside F.Writer.failed) machine.old.contents (paths_of outputs.entry) files.old
-        files.new readers.old machine.new tally.new result }
+    ensures drives { let storage = storage_of F.calls F.Reader.left F.Reader.failed F.Writer.written F.Writer.failed in
+        DrivesOpened storage machine.old.contents (paths_of outputs.entry) files.old files.new readers.old machine.new
+        tally.new result }
     ensures limit { machine.new.limit ≡ machine.old.limit }
 {
     let mut writers = [None, None, None, None];
@@ -192,14 +192,12 @@ pub fn debug<'a, F: Files, O: Observer>(
     observer: O,
     files: &mut F,
 ) -> Result<Debugged, Failure<'a>>
-    ensures { let ins = paths_of asked.entry.inputs in let outs = paths_of asked.entry.outputs in
+    ensures { let storage = storage_of F.calls F.Reader.left F.Reader.failed F.Writer.written F.Writer.failed in
+        let ins = paths_of asked.entry.inputs in let outs = paths_of asked.entry.outputs in
         let bytes = option_map (λ text. text.now) asked.entry.bytes in
         MatchResult result
-        (λ d. HasRunTo F.opens F.creates F.closes (inside F.Reader.left) (inside F.Reader.failed)
-        (inside F.Writer.written) (inside F.Writer.failed) «module».now ins outs bytes files.old files.new lines.now
-        d.ending (string_bytes d.text))
-        (StopsRun F.opens F.creates F.closes (inside F.Reader.left) (inside F.Reader.failed)
-        (inside F.Writer.written) (inside F.Writer.failed) «module».now ins outs bytes files.old files.new) }
+        (λ d. HasRunTo storage «module».now ins outs bytes files.old files.new lines.now d.ending (string_bytes d.text))
+        (StopsRun storage «module».now ins outs bytes files.old files.new) }
 {
     let mut readers = [None, None, None, None];
     open_all(files, asked.inputs, &mut readers)?;

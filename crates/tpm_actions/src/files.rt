@@ -1,9 +1,8 @@
 //! Files by path.
 
-ghost use Rattle.std.specs.Prelude.{◌≡◌, ℕ, Bool, true, false, List, Result, Ok, Err, MatchResult, IfOk, is_ok};
+ghost use Rattle.std.specs.Prelude.{◌≡◌, true, false, Ok, Err, MatchResult, IfOk, is_ok};
 ghost use Rattle.std.specs.Global.{Box};
-ghost use Rattle.tpm_actions.specs.declared.extent.Extent.{Extent};
-ghost use Rattle.tpm_actions.specs.declared.files.FileFault.{FileFault};
+ghost use Rattle.tpm_actions.specs.FileCalls.{FileCalls};
 
 use crate::extent::{Extent, read_beginning};
 use crate::opened::{FileReader, FileWriter};
@@ -38,36 +37,27 @@ pub trait Files {
     /// A file that is written.
     type Writer: LinkWriter + Drop;
 
-    /// What a read of the file at a path can give if it goes so far, and what the files are afterwards.
-    ghost reads: { Self → List ℕ → Extent → Result (List ℕ) FileFault → Self → Type 0 };
-
-    /// The same of opening it.
-    ghost opens: { Self → List ℕ → Result (Box Self.Reader) FileFault → Self → Type 0 };
-
-    /// The same of creating it.
-    ghost creates: { Self → List ℕ → Result (Box Self.Writer) FileFault → Self → Type 0 };
-
-    /// Whether a writer can be closed, and what the files are afterwards.
-    ghost closes: { Self → Box Self.Writer → Bool → Self → Type 0 };
+    /// What its calls can come to.
+    ghost calls: { FileCalls Self (Box Self.Reader) (Box Self.Writer) };
 
     /// The bytes of the file at this path, as far as this goes: what `read_beginning` reads of them.
     fn read(&mut self, path: &str, extent: Extent) -> Result<Vec<u8>, FileFault>
-        ensures { MatchResult result (λ bytes. reads self.old path.now extent (Ok bytes.items) self.new)
-            (λ fault. reads self.old path.now extent (Err fault) self.new) };
+        ensures { MatchResult result (λ bytes. calls.reads self.old path.now extent (Ok bytes.items) self.new)
+            (λ fault. calls.reads self.old path.now extent (Err fault) self.new) };
 
     /// The file at this path, to be read from its beginning. Nothing has failed yet.
     fn open(&mut self, path: &str) -> Result<Box<Self::Reader>, FileFault>
-        ensures gives { opens self.old path.now result self.new }
+        ensures gives { calls.opens self.old path.now result self.new }
         ensures fresh { IfOk result (λ reader. Self.Reader.failed reader.value ≡ false) };
 
     /// The file at this path, emptied, or made if there is none. Nothing has failed yet.
     fn create(&mut self, path: &str) -> Result<Box<Self::Writer>, FileFault>
-        ensures gives { creates self.old path.now result self.new }
+        ensures gives { calls.creates self.old path.now result self.new }
         ensures fresh { IfOk result (λ writer. Self.Writer.failed writer.value ≡ false) };
 
     /// Takes the writer back, and writes what it has kept.
     fn close(&mut self, writer: Box<Self::Writer>) -> Result<(), Failed>
-        ensures { closes self.old writer (is_ok result) self.new };
+        ensures { calls.closes self.old writer (is_ok result) self.new };
 }
 
 /// The files that a runtime opens, of which nothing is known, and the standard streams, whose path is `-`. What is done
@@ -118,13 +108,12 @@ impl<'a, R: rt::Files + AllocGlobal + io::Input, P: Print> Files for SystemFiles
 
     type Writer = Writing<FileWriter<R::File, io::Printer<'a, P>>>;
 
-    ghost reads = { λ before path extent bytes after. after ≡ before };
-
-    ghost opens = { λ before path reader after. after ≡ record before { are_regular = after.are_regular } };
-
-    ghost creates = { λ before path writer after. after ≡ before };
-
-    ghost closes = { λ before writer closed after. after ≡ before };
+    ghost calls = { record {
+      reads = λ before path extent bytes after. after ≡ before;
+      opens = λ before path reader after. after ≡ record before { are_regular = after.are_regular };
+      creates = λ before path writer after. after ≡ before;
+      closes = λ before writer closed after. after ≡ before;
+    } };
 
     fn read(&mut self, path: &str, extent: Extent) -> Result<Vec<u8>, FileFault> {
         let file = fs::File::open(self.runtime, path)?;

@@ -3,9 +3,9 @@
 ghost use Rattle.std.specs.Prelude.{◌≡◌, false, option_map, IfOk, MatchResult, string_bytes};
 ghost use Rattle.command_line.specs.Links.{paths_of};
 ghost use Rattle.tpm_actions.specs.Extents.{begins_as_module};
-ghost use Rattle.tpm_actions.specs.FilesInOrder.{inside};
 ghost use Rattle.compiler.specs.CodeLines.{AreLinesOf};
 ghost use Rattle.tpm_actions.specs.Programs.{lined, TellsModule, TellsProgram, WithholdsProgram, WithholdsRun};
+ghost use Rattle.tpm_actions.specs.Storage.{storage_of};
 
 use crate::debugging::{Debugged, Debugging, Ending, debug};
 use crate::extent::begins_as_module;
@@ -30,14 +30,13 @@ fn debug_module<'a, F: Files, O: Observer>(
     observer: O,
     files: &mut F,
 ) -> Result<String, Failure<'a>>
-    ensures { let ins = paths_of asked.entry.inputs in let outs = paths_of asked.entry.outputs in
+    ensures { let storage = storage_of F.calls F.Reader.left F.Reader.failed F.Writer.written F.Writer.failed in
+        let ins = paths_of asked.entry.inputs in let outs = paths_of asked.entry.outputs in
         let limit = option_map (λ text. text.now) asked.entry.bytes in
         let m = lined «module».now lines.now in
         MatchResult result
-        (λ text. TellsModule F.opens F.creates F.closes (inside F.Reader.left) (inside F.Reader.failed)
-        (inside F.Writer.written) (inside F.Writer.failed) ins outs limit files.old files.new m (string_bytes text))
-        (WithholdsRun F.opens F.creates F.closes (inside F.Reader.left) (inside F.Reader.failed)
-        (inside F.Writer.written) (inside F.Writer.failed) ins outs limit files.old files.new m) }
+        (λ text. TellsModule storage ins outs limit files.old files.new m (string_bytes text))
+        (WithholdsRun storage ins outs limit files.old files.new m) }
 {
     let Debugged { ending, text } = debug(alloc, module, lines, asked, observer, files)?;
     match ending {
@@ -71,13 +70,12 @@ fn debug_source<'a, F: Files, T: Write + Drop>(
     files: &mut F,
 ) -> Result<String, Failure<'a>>
     requires { begins_as_module source.now ≡ false }
-    ensures { let ins = paths_of asked.entry.inputs in let outs = paths_of asked.entry.outputs in
+    ensures { let storage = storage_of F.calls F.Reader.left F.Reader.failed F.Writer.written F.Writer.failed in
+        let ins = paths_of asked.entry.inputs in let outs = paths_of asked.entry.outputs in
         let limit = option_map (λ text. text.now) asked.entry.bytes in
         MatchResult result
-        (λ text. TellsProgram F.opens F.creates F.closes (inside F.Reader.left) (inside F.Reader.failed)
-        (inside F.Writer.written) (inside F.Writer.failed) ins outs limit files.old files.new source.now (string_bytes text))
-        (WithholdsProgram F.opens F.creates F.closes (inside F.Reader.left) (inside F.Reader.failed)
-        (inside F.Writer.written) (inside F.Writer.failed) ins outs limit files.old files.new source.now) }
+        (λ text. TellsProgram storage ins outs limit files.old files.new source.now (string_bytes text))
+        (WithholdsProgram storage ins outs limit files.old files.new source.now) }
 {
     let file = compile(alloc, source)?;
     let table = lines_of(alloc, source)?;
@@ -100,13 +98,12 @@ pub fn debug_program<'a, F: Files, T: Write + Drop>(
     tracer: Tracer<T>,
     files: &mut F,
 ) -> Result<String, Failure<'a>>
-    ensures { let ins = paths_of asked.entry.inputs in let outs = paths_of asked.entry.outputs in
+    ensures { let storage = storage_of F.calls F.Reader.left F.Reader.failed F.Writer.written F.Writer.failed in
+        let ins = paths_of asked.entry.inputs in let outs = paths_of asked.entry.outputs in
         let limit = option_map (λ text. text.now) asked.entry.bytes in
         MatchResult result
-        (λ text. TellsProgram F.opens F.creates F.closes (inside F.Reader.left) (inside F.Reader.failed)
-        (inside F.Writer.written) (inside F.Writer.failed) ins outs limit files.old files.new bytes.now (string_bytes text))
-        (WithholdsProgram F.opens F.creates F.closes (inside F.Reader.left) (inside F.Reader.failed)
-        (inside F.Writer.written) (inside F.Writer.failed) ins outs limit files.old files.new bytes.now) }
+        (λ text. TellsProgram storage ins outs limit files.old files.new bytes.now (string_bytes text))
+        (WithholdsProgram storage ins outs limit files.old files.new bytes.now) }
 {
     if !begins_as_module(bytes) {
         return debug_source(alloc, bytes, asked, tracer, files);

@@ -7,6 +7,7 @@ ghost use Rattle.command_line.specs.Links.{paths_of};
 ghost use Rattle.tpm_actions.specs.FilesInOrder.{inside, in_order, MayGive, GivesAll, FailsForPath, FailsAtPath};
 ghost use Rattle.tpm_actions.specs.FilesInOrder.{MayClose, ClosesAll};
 ghost use Rattle.tpm_actions.specs.FilesOnLinks.{first_unclosed, CreatesAndRuns, RunsOpened, RunsTo};
+ghost use Rattle.tpm_actions.specs.Storage.{storage_of};
 
 use crate::files::{FileFault, Files};
 use crate::report::Failure;
@@ -46,8 +47,8 @@ fn open<'a, F: Files>(
     path: Option<&'a str>,
 ) -> Result<Option<Box<F::Reader>>, MissingFile<'a>>
     ensures gives { let text = option_map (λ p. p.now) path.entry in
-        MatchResult result (λ reader. MayGive F.opens files.old text reader files.new)
-        (λ missing. FailsForPath F.opens files.old text missing.path.now missing.fault files.new) }
+        MatchResult result (λ reader. MayGive F.calls.opens files.old text reader files.new)
+        (λ missing. FailsForPath F.calls.opens files.old text missing.path.now missing.fault files.new) }
     ensures fresh { IfOk result (λ reader. flag_at (inside F.Reader.failed) reader ≡ false) }
     ensures direction { IfErr result (λ missing. missing.direction ≡ Direction.In) }
 {
@@ -72,8 +73,8 @@ pub(crate) fn open_all<'a, F: Files>(
 ) -> Result<(), MissingFile<'a>>
     requires { readers.old ≡ None ∷ None ∷ None ∷ None ∷ [] }
     ensures gives { let texts = in_order (paths_of paths.entry) in
-        MatchResult result (λ _. GivesAll F.opens files.old texts readers.new files.new)
-        (λ missing. FailsAtPath F.opens files.old texts readers.new missing.path.now missing.fault files.new) }
+        MatchResult result (λ _. GivesAll F.calls.opens files.old texts readers.new files.new)
+        (λ missing. FailsAtPath F.calls.opens files.old texts readers.new missing.path.now missing.fault files.new) }
     ensures fresh { IfOk result (λ _. NoneFailed (inside F.Reader.failed) readers.new) }
     ensures direction { IfErr result (λ missing. missing.direction ≡ Direction.In) }
 {
@@ -90,8 +91,8 @@ fn create<'a, F: Files>(
     path: Option<&'a str>,
 ) -> Result<Option<Box<F::Writer>>, MissingFile<'a>>
     ensures gives { let text = option_map (λ p. p.now) path.entry in
-        MatchResult result (λ writer. MayGive F.creates files.old text writer files.new)
-        (λ missing. FailsForPath F.creates files.old text missing.path.now missing.fault files.new) }
+        MatchResult result (λ writer. MayGive F.calls.creates files.old text writer files.new)
+        (λ missing. FailsForPath F.calls.creates files.old text missing.path.now missing.fault files.new) }
     ensures fresh { IfOk result (λ writer. flag_at (inside F.Writer.failed) writer ≡ false) }
     ensures direction { IfErr result (λ missing. missing.direction ≡ Direction.Out) }
 {
@@ -116,8 +117,8 @@ pub(crate) fn create_all<'a, F: Files>(
 ) -> Result<(), MissingFile<'a>>
     requires { writers.old ≡ None ∷ None ∷ None ∷ None ∷ [] }
     ensures gives { let texts = in_order (paths_of paths.entry) in
-        MatchResult result (λ _. GivesAll F.creates files.old texts writers.new files.new)
-        (λ missing. FailsAtPath F.creates files.old texts writers.new missing.path.now missing.fault files.new) }
+        MatchResult result (λ _. GivesAll F.calls.creates files.old texts writers.new files.new)
+        (λ missing. FailsAtPath F.calls.creates files.old texts writers.new missing.path.now missing.fault files.new) }
     ensures fresh { IfOk result (λ _. NoneFailed (inside F.Writer.failed) writers.new) }
     ensures direction { IfErr result (λ missing. missing.direction ≡ Direction.Out) }
 {
@@ -130,7 +131,7 @@ pub(crate) fn create_all<'a, F: Files>(
 
 /// Closes the writer of this link, if there is one, and returns whether that succeeded.
 fn close<F: Files>(files: &mut F, writers: &mut [Option<Box<F::Writer>>; 4], link: Link) -> bool
-    ensures closes { MayClose F.closes files.old (at_link writers.old link) result files.new }
+    ensures closes { MayClose F.calls.closes files.old (at_link writers.old link) result files.new }
     ensures elsewhere { SameElsewhere writers.old writers.new link }
 {
     match writers[link.index()].take() {
@@ -144,7 +145,7 @@ pub(crate) fn close_all<F: Files>(
     files: &mut F,
     writers: &mut [Option<Box<F::Writer>>; 4],
 ) -> Option<Link>
-    ensures { (closed : ByLink Bool) × (ClosesAll F.closes files.old writers.old closed files.new
+    ensures { (closed : ByLink Bool) × (ClosesAll F.calls.closes files.old writers.old closed files.new
         × (result ≡ first_unclosed closed)) }
 {
     let first = close(files, writers, Link::Zero);
@@ -175,9 +176,9 @@ fn create_and_run<'a, F: Files>(
 ) -> Result<Report, Failure<'a>>
     requires readers { NoneFailed (inside F.Reader.failed) readers.old }
     requires writers { writers.old ≡ None ∷ None ∷ None ∷ None ∷ [] }
-    ensures { CreatesAndRuns F.creates (inside F.Reader.left) (inside F.Reader.failed) (inside F.Writer.written)
-        (inside F.Writer.failed) verified.now
-        (paths_of outputs.entry) files.old files.new readers.old readers.new writers.new result }
+    ensures { let storage = storage_of F.calls F.Reader.left F.Reader.failed F.Writer.written F.Writer.failed in
+        CreatesAndRuns storage verified.now (paths_of outputs.entry) files.old files.new readers.old readers.new
+        writers.new result }
 {
     create_all(files, outputs, writers)?;
     match run(alloc, verified, readers, writers) {
@@ -198,8 +199,8 @@ fn run_opened<'a, F: Files>(
     readers: &mut [Option<Box<F::Reader>>; 4],
 ) -> Result<Report, Failure<'a>>
     requires { NoneFailed (inside F.Reader.failed) readers.old }
-    ensures { RunsOpened F.creates F.closes (inside F.Reader.left) (inside F.Reader.failed) (inside F.Writer.written)
-        (inside F.Writer.failed) verified.now (paths_of outputs.entry) files.old files.new readers.old result }
+    ensures { let storage = storage_of F.calls F.Reader.left F.Reader.failed F.Writer.written F.Writer.failed in
+        RunsOpened storage verified.now (paths_of outputs.entry) files.old files.new readers.old result }
 {
     let mut writers = [None, None, None, None];
     let ran = create_and_run(alloc, verified, outputs, files, readers, &mut writers);
@@ -219,9 +220,8 @@ pub fn run_with_files<'a, F: Files>(
     outputs: LinkPaths<'a>,
     files: &mut F,
 ) -> Result<Report, Failure<'a>>
-    ensures { RunsTo F.opens F.creates F.closes (inside F.Reader.left) (inside F.Reader.failed)
-        (inside F.Writer.written) (inside F.Writer.failed) verified.now (paths_of inputs.entry)
-        (paths_of outputs.entry) files.old files.new result }
+    ensures { let storage = storage_of F.calls F.Reader.left F.Reader.failed F.Writer.written F.Writer.failed in
+        RunsTo storage verified.now (paths_of inputs.entry) (paths_of outputs.entry) files.old files.new result }
 {
     let mut readers = [None, None, None, None];
     open_all(files, inputs, &mut readers)?;

@@ -3,7 +3,7 @@
 ghost use Rattle.std.specs.Prelude.{MatchResult, string_bytes};
 ghost use Rattle.module_format.specs.Keeping.{IsUpgraded};
 ghost use Rattle.tpm_actions.specs.Upgrading.{HasUpgraded, RefusesUpgrade, WithholdsUpgrade};
-ghost use Rattle.tpm_actions.specs.FilesInOrder.{inside};
+ghost use Rattle.tpm_actions.specs.Storage.{storage_of};
 
 use crate::compiling::write_file;
 use crate::files::Files;
@@ -28,10 +28,11 @@ pub fn upgrade_to_file<'a, F: Files>(
     out: &'a str,
     files: &mut F,
 ) -> Result<String, Failure<'a>>
-    ensures { MatchResult result
-        (λ text. HasUpgraded F.creates F.closes (inside F.Writer.written) bytes.now out.entry.now files.old files.new
+    ensures { let storage = storage_of F.calls F.Reader.left F.Reader.failed F.Writer.written F.Writer.failed in
+        MatchResult result
+        (λ text. HasUpgraded storage bytes.now out.entry.now files.old files.new
         (string_bytes text))
-        (WithholdsUpgrade F.creates F.closes (inside F.Writer.written) bytes.now out.entry.now files.old files.new) }
+        (WithholdsUpgrade storage bytes.now out.entry.now files.old files.new) }
 {
     let file = upgraded(alloc, bytes)?;
     write_file(out, &file, files)?;

@@ -1,13 +1,12 @@
 use Rattle.std.proofs.Common.{string_bytes, inl}
-use Rattle.tpm_actions.specs.FilesInOrder.{inside}
+use Rattle.tpm_actions.specs.Storage.{storage_of}
 use Rattle.tpm_actions.proofs.Answered.{answered}
 use Rattle.tpm_actions.proofs.acting.answer.Goals as goal
 
 pub returns-in-Ok : goal.returns-in-Ok
 returns-in-Ok g c =
-    answered g.F.Files.opens g.F.Files.creates g.F.Files.closes (inside g.F.Reader.LinkReader.left)
-    (inside g.F.Reader.LinkReader.failed) (inside g.F.Writer.LinkWriter.written)
-    (inside g.F.Writer.LinkWriter.failed) g.F.Files.reads _ _ _ _ _ (rw (
+    answered (storage_of g.F.Files.calls g.F.Reader.LinkReader.left g.F.Reader.LinkReader.failed
+    g.F.Writer.LinkWriter.written g.F.Writer.LinkWriter.failed) _ _ _ _ _ (rw (
       c.read_path-path.ensures,
       c.read_extent-extent.ensures,
     ) at c.in-Ok.ensures)

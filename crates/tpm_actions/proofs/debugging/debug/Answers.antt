@@ -6,7 +6,7 @@ use Rattle.machine_state.specs.Happens.{most_executed}
 use Rattle.machine_state.specs.World.{World}
 use Rattle.machine.specs.Asking.{Execution}
 use Rattle.machine.specs.Bounding.{BoundedExecution}
-use Rattle.tpm_actions.specs.FilesInOrder.{inside}
+use Rattle.tpm_actions.specs.Storage.{storage_of}
 use Rattle.tpm_actions.specs.Debugging.{DrivesOpened, IsKnown, TellsRun}
 use Rattle.tpm_actions.proofs.Driven.{driven_is_known, opened_stops}
 use Rattle.tpm_actions.proofs.debugging.debug.Goals as goal
@@ -14,28 +14,28 @@ use Rattle.tpm_actions.proofs.debugging.debug.Goals as goal
 pub told-requires : goal.told-requires
 told-requires g c =
     subst (IsKnown c.in_ok-ending.ending) (sym c.checked.ensures)
-    (driven_is_known g.F.Files.creates g.F.Files.closes (inside g.F.Reader.LinkReader.left)
-    (inside g.F.Reader.LinkReader.failed) (inside g.F.Writer.LinkWriter.written) (inside g.F.Writer.LinkWriter.failed)
-    _ _ _ _ _ _ _ c.in_ok-ending.ending c.in_ok-ending.ensures.drives)
+    (driven_is_known (storage_of g.F.Files.calls g.F.Reader.LinkReader.left g.F.Reader.LinkReader.failed
+    g.F.Writer.LinkWriter.written g.F.Writer.LinkWriter.failed) _ _ _ _ _ _ _ c.in_ok-ending.ending c.in_ok-ending.ensures.drives)
 
 pub returns-in_err-ending : goal.returns-in_err-ending
 returns-in_err-ending g c =
     let p = err_from_is_err_and c.from_residual-in_err-ending.result c.from_residual-in_err-ending.ensures.1 in
     let is = ap (λ (b : BoundedExecution). b.contents) c.in_ok-machine.ensures.value in
     let failure = c.in_err-ending.field-0.0 in
-    rw (p.1, p.2) (opened_stops g.F.Files.opens g.F.Files.creates g.F.Files.closes
-    (inside g.F.Reader.LinkReader.left) (inside g.F.Reader.LinkReader.failed) (inside g.F.Writer.LinkWriter.written)
-    (inside g.F.Writer.LinkWriter.failed) c.args.module.now (paths_of c.args.asked.inputs)
+    let storage = storage_of g.F.Files.calls g.F.Reader.LinkReader.left g.F.Reader.LinkReader.failed
+    g.F.Writer.LinkWriter.written g.F.Writer.LinkWriter.failed in
+    rw (p.1, p.2) (opened_stops storage c.args.module.now (paths_of c.args.asked.inputs)
     (paths_of c.args.asked.outputs) (option_map (λ text. text.now) c.args.asked.bytes) _ _ _ _
     c.in_ok-open_all.ensures.gives c.drive_opened.new.machine c.drive_opened.new.tally failure
-    (subst (λ (m : Contents). DrivesOpened g.F.Files.creates g.F.Files.closes (inside g.F.Reader.LinkReader.left)
-    (inside g.F.Reader.LinkReader.failed) (inside g.F.Writer.LinkWriter.written) (inside g.F.Writer.LinkWriter.failed) m (paths_of c.args.asked.outputs) c.open_all.new.files
+    (subst (λ (m : Contents). DrivesOpened storage m (paths_of c.args.asked.outputs) c.open_all.new.files
     c.drive_opened.new.files c.open_all.new.readers c.drive_opened.new.machine c.drive_opened.new.tally
     (Err failure)) is c.in_err-ending.ensures.drives))
 
 pub returns : goal.returns
 returns g c =
     let is = ap (λ (b : BoundedExecution). b.contents) c.in_ok-machine.ensures.value in
+    let storage = storage_of g.F.Files.calls g.F.Reader.LinkReader.left g.F.Reader.LinkReader.failed
+    g.F.Writer.LinkWriter.written g.F.Writer.LinkWriter.failed in
     record {
       machine = c.drive_opened.new.machine;
       tally = c.drive_opened.new.tally;
@@ -46,8 +46,7 @@ returns g c =
         readers = c.open_all.new.readers;
         opened = c.open_all.new.files;
         opens_all = c.in_ok-open_all.ensures.gives;
-        drives = subst (λ (m : Contents). DrivesOpened g.F.Files.creates g.F.Files.closes (inside g.F.Reader.LinkReader.left)
-            (inside g.F.Reader.LinkReader.failed) (inside g.F.Writer.LinkWriter.written) (inside g.F.Writer.LinkWriter.failed) m (paths_of c.args.asked.outputs) c.open_all.new.files
+        drives = subst (λ (m : Contents). DrivesOpened storage m (paths_of c.args.asked.outputs) c.open_all.new.files
             c.drive_opened.new.files c.open_all.new.readers c.drive_opened.new.machine c.drive_opened.new.tally
             (Ok c.in_ok-ending.ending)) is c.in_ok-ending.ensures.drives;
       };

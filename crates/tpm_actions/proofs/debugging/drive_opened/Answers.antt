@@ -1,5 +1,5 @@
 use Rattle.std.proofs.lemmas.Result.{err_from_is_err_and}
-use Rattle.tpm_actions.specs.FilesInOrder.{inside}
+use Rattle.tpm_actions.specs.Storage.{storage_of}
 use Rattle.command_line.specs.Links.{paths_of}
 use Rattle.tpm_actions.proofs.Driven.{breaks}
 use Rattle.tpm_actions.proofs.debugging.drive_opened.Goals as goal
@@ -8,6 +8,6 @@ pub returns-in_err-ending-clause-drives : goal.returns-in_err-ending-clause-driv
 returns-in_err-ending-clause-drives g c =
     let p = err_from_is_err_and c.from_residual.result c.from_residual.ensures.1 in
     let closing = c.close_all-unclosed.ensures in
-    rw (p.1, p.2) (breaks g.F.Files.creates (inside g.F.Reader.LinkReader.left) (inside g.F.Reader.LinkReader.failed)
-    (inside g.F.Writer.LinkWriter.written) (inside g.F.Writer.LinkWriter.failed) c.args.machine.now.contents
-    (paths_of c.args.outputs) _ _ g.F.Files.closes _ _ _ _ _ _ closing.0 closing.1.0 _ c.in_err-ending.ensures.drives)
+    rw (p.1, p.2) (breaks (storage_of g.F.Files.calls g.F.Reader.LinkReader.left g.F.Reader.LinkReader.failed
+    g.F.Writer.LinkWriter.written g.F.Writer.LinkWriter.failed) c.args.machine.now.contents
+    (paths_of c.args.outputs) _ _ _ _ _ _ _ _ closing.0 closing.1.0 _ c.in_err-ending.ensures.drives)

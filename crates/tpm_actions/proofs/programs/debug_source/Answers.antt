@@ -1,7 +1,7 @@
 use Rattle.std.proofs.Common.{ℕ, List, option_map, string_bytes, subst, sym}
 use Rattle.module_format.specs.Keeping.{Format}
 use Rattle.command_line.specs.Links.{paths_of}
-use Rattle.tpm_actions.specs.FilesInOrder.{inside}
+use Rattle.tpm_actions.specs.Storage.{storage_of}
 use Rattle.compiler.specs.CodeLines.{AreLinesOf}
 use Rattle.tpm_actions.specs.Programs.{lined, is_source}
 use Rattle.tpm_actions.proofs.ProgramsRun.{programmed}
@@ -9,9 +9,9 @@ use Rattle.tpm_actions.proofs.programs.debug_source.Goals as goal
 
 pub returns-in-Ok : goal.returns-in-Ok
 returns-in-Ok g c =
-    programmed g.F.Files.opens g.F.Files.creates g.F.Files.closes
-    (inside g.F.Reader.LinkReader.left) (inside g.F.Reader.LinkReader.failed) (inside g.F.Writer.LinkWriter.written)
-    (inside g.F.Writer.LinkWriter.failed) (paths_of c.args.asked.inputs) (paths_of c.args.asked.outputs)
+    programmed (storage_of g.F.Files.calls g.F.Reader.LinkReader.left g.F.Reader.LinkReader.failed
+    g.F.Writer.LinkWriter.written g.F.Writer.LinkWriter.failed)
+    (paths_of c.args.asked.inputs) (paths_of c.args.asked.outputs)
     (option_map (λ text. text.now) c.args.asked.bytes) _ _
     (lined c.in-Ok.module c.as_slice-lines.result.now) c.args.source.now
     (is_source _ c.requires c.in_ok-file.ensures.compiled

@@ -5,7 +5,7 @@ pub returns-then-not-first : goal.returns-then-not-first
 returns-then-not-first g c = (
   _,
   (
-    all_closed g.F.Files.closes _ _ _ _ _ _ _ _ _ _ _ _ _ c.close-first.ensures.closes
+    all_closed g.F.Files.calls.closes _ _ _ _ _ _ _ _ _ _ _ _ _ c.close-first.ensures.closes
         c.close-first.ensures.elsewhere c.close-second.ensures.closes c.close-second.ensures.elsewhere
         c.close-third.ensures.closes c.close-third.ensures.elsewhere c.close-fourth.ensures.closes,
     first_is _ _ _ _ c.if-not-first.true,
@@ -16,7 +16,7 @@ pub returns-then-not-second : goal.returns-then-not-second
 returns-then-not-second g c = (
   _,
   (
-    all_closed g.F.Files.closes _ _ _ _ _ _ _ _ _ _ _ _ _ c.close-first.ensures.closes
+    all_closed g.F.Files.calls.closes _ _ _ _ _ _ _ _ _ _ _ _ _ c.close-first.ensures.closes
         c.close-first.ensures.elsewhere c.close-second.ensures.closes c.close-second.ensures.elsewhere
         c.close-third.ensures.closes c.close-third.ensures.elsewhere c.close-fourth.ensures.closes,
     second_is _ _ _ _ c.if-not-first.false c.if-not-second.true,
@@ -27,7 +27,7 @@ pub returns-then-not-third : goal.returns-then-not-third
 returns-then-not-third g c = (
   _,
   (
-    all_closed g.F.Files.closes _ _ _ _ _ _ _ _ _ _ _ _ _ c.close-first.ensures.closes
+    all_closed g.F.Files.calls.closes _ _ _ _ _ _ _ _ _ _ _ _ _ c.close-first.ensures.closes
         c.close-first.ensures.elsewhere c.close-second.ensures.closes c.close-second.ensures.elsewhere
         c.close-third.ensures.closes c.close-third.ensures.elsewhere c.close-fourth.ensures.closes,
     third_is _ _ _ _ c.if-not-first.false c.if-not-second.false c.if-not-third.true,
@@ -38,7 +38,7 @@ pub returns-then-not-fourth : goal.returns-then-not-fourth
 returns-then-not-fourth g c = (
   _,
   (
-    all_closed g.F.Files.closes _ _ _ _ _ _ _ _ _ _ _ _ _ c.close-first.ensures.closes
+    all_closed g.F.Files.calls.closes _ _ _ _ _ _ _ _ _ _ _ _ _ c.close-first.ensures.closes
         c.close-first.ensures.elsewhere c.close-second.ensures.closes c.close-second.ensures.elsewhere
         c.close-third.ensures.closes c.close-third.ensures.elsewhere c.close-fourth.ensures.closes,
     fourth_is _ _ _ _ c.if-not-first.false c.if-not-second.false c.if-not-third.false c.if-not-fourth.true,
@@ -49,7 +49,7 @@ pub returns-else-not-fourth : goal.returns-else-not-fourth
 returns-else-not-fourth g c = (
   _,
   (
-    all_closed g.F.Files.closes _ _ _ _ _ _ _ _ _ _ _ _ _ c.close-first.ensures.closes
+    all_closed g.F.Files.calls.closes _ _ _ _ _ _ _ _ _ _ _ _ _ c.close-first.ensures.closes
         c.close-first.ensures.elsewhere c.close-second.ensures.closes c.close-second.ensures.elsewhere
         c.close-third.ensures.closes c.close-third.ensures.elsewhere c.close-fourth.ensures.closes,
     none_is _ _ _ _ c.if-not-first.false c.if-not-second.false c.if-not-third.false c.if-not-fourth.false,
