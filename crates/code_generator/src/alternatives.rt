@@ -74,6 +74,7 @@ impl<'a> ProcessWriter<'a> {
     }
 
     /// The guards of branches.
+    #[inline(never)]
     fn guards_of(&mut self, limits: Limits, branches: &[Branch<'a>]) -> Result<Guards, GenFault>
         ensures { IfOk result (λ _. StaysSo self.old self.new) }
     {
@@ -85,6 +86,7 @@ impl<'a> ProcessWriter<'a> {
     }
 
     /// A guard under a replicator, once for each turn.
+    #[inline(never)]
     fn guards_in_turns(
         &mut self,
         limits: Limits,
@@ -102,6 +104,7 @@ impl<'a> ProcessWriter<'a> {
     }
 
     /// Waits for guards, and goes on at one that is ready. Their labels are the result.
+    #[inline(never)]
     fn choose(&mut self, guards: &Guards) -> Result<Labels, GenFault>
         ensures { IfOk result (λ _. StaysSo self.old self.new) }
     {
@@ -113,6 +116,7 @@ impl<'a> ProcessWriter<'a> {
 
     /// An `ALT`.
     #[cycle(processes)]
+    #[inline(never)]
     pub(crate) fn write_alt(
         &mut self,
         around: Surroundings<'_, 'a>,
@@ -150,6 +154,7 @@ impl<'a> ProcessWriter<'a> {
 
     /// An `ALT` of a branch under a replicator.
     #[cycle(processes)]
+    #[inline(never)]
     pub(crate) fn write_repeated_alt(
         &mut self,
         around: Surroundings<'_, 'a>,

@@ -318,6 +318,7 @@ impl<'a> ProcessWriter<'a> {
 
     /// An `IF` of a choice under a replicator.
     #[cycle(processes)]
+    #[inline(never)]
     pub(crate) fn write_repeated_if(
         &mut self,
         around: Surroundings<'_, 'a>,

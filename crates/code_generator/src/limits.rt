@@ -9,7 +9,8 @@ use line_pieces::{GREATEST_ROWS, GREATEST_SAID, Listing, plus, size_of_count};
 use module_builder::GenFault;
 use program_sizes::GREATEST_SIZE;
 
-/// How many processes may be in one another, bodies of procedures among them. Each takes less than two KB of stack.
+/// How many processes may be in one another, bodies of procedures among them. Each takes less than two KB of stack, since
+/// what writes no process in it is not inlined.
 pub(crate) const GREATEST_DEPTH: u32 = 2_048;
 
 /// As how many processes an instance counts beside its own, for the stack that it takes.

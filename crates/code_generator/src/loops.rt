@@ -85,6 +85,7 @@ fn write_loop_end(
 
 impl<'a> ProcessWriter<'a> {
     /// What a process changes was found. Of a sequential program nothing is counted.
+    #[inline(never)]
     pub(crate) fn find(&mut self, limits: Limits, process: &Process) -> Result<(), GenFault>
         ensures ok { IfOk result (λ _. Spends self.old self.new) }
         ensures limit { result ≡ Err GenFault.Limit → limits.is_sequential ≡ false }
@@ -97,6 +98,7 @@ impl<'a> ProcessWriter<'a> {
     }
 
     /// The head of a loop, whose body changes the variables with these numbers.
+    #[inline(never)]
     pub(crate) fn enter_loop(
         &mut self,
         limits: Limits,
@@ -125,6 +127,7 @@ impl<'a> ProcessWriter<'a> {
     }
 
     /// The end of a loop with its head at this label and its block at this word. There were `names` names before it.
+    #[inline(never)]
     pub(crate) fn leave_loop(
         &mut self,
         limits: Limits,
@@ -146,6 +149,7 @@ impl<'a> ProcessWriter<'a> {
     }
 
     /// A loop without turns, whose body changes the variables with these numbers.
+    #[inline(never)]
     pub(crate) fn write_no_loop(
         &mut self,
         limits: Limits,

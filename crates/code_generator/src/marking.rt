@@ -8,6 +8,7 @@ use std::alloc::AllocError;
 
 impl ProcessWriter<'_> {
     /// The code that comes next is that of a line. The line before is the result.
+    #[inline(never)]
     pub(crate) fn begin_line(&mut self, line: u32) -> Result<u32, AllocError>
         ensures { IfOk result (λ _. Spends self.old self.new) }
     {

@@ -246,6 +246,7 @@ impl<'a> ProcessWriter<'a> {
 
     /// A `PAR`.
     #[cycle(processes)]
+    #[inline(never)]
     pub(crate) fn write_par(
         &mut self,
         around: Surroundings<'_, 'a>,
@@ -285,6 +286,7 @@ impl<'a> ProcessWriter<'a> {
 
     /// A `PAR` of a process under a replicator on this line.
     #[cycle(processes)]
+    #[inline(never)]
     pub(crate) fn write_repeated_par(
         &mut self,
         around: Surroundings<'_, 'a>,

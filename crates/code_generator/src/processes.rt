@@ -157,6 +157,7 @@ impl<'a> ProcessWriter<'a> {
     }
 
     /// The declarations before a construct.
+    #[inline(never)]
     fn declare_all(
         &mut self,
         limits: Limits,
@@ -242,6 +243,7 @@ impl<'a> ProcessWriter<'a> {
     }
 
     /// A condition, and a jump to a label where it does not hold.
+    #[inline(never)]
     pub(crate) fn write_test(
         &mut self,
         limits: Limits,
