@@ -67,7 +67,7 @@ pub fn meant(line: &[u8], at: usize, len: usize) -> &[u8]
 }
 
 /// What ends the bytes of a line: a quote, after two dots if not all of them are told.
-fn closing_quote(len: usize) -> &'static str
+pub fn closing_quote(len: usize) -> &'static str
     ensures { result.now ≡ closing_quote len }
 {
     if len <= 100 { "`" } else { "..`" }

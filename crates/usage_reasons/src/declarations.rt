@@ -47,8 +47,8 @@ pub(crate) fn width_of_formal(formal: &Formal) -> usize {
 impl<'a> Site<'_, 'a> {
     /// A size that is below 1.
     #[tactic(auto, using(crate::proofs::Parts::size_broken))]
-    fn size_below_one(self, at: usize, expr: &Expr) -> Found<'a>
-        ensures { IfSome result (Explains (known_at self.entry)) }
+    fn size_below_one(&self, at: usize, expr: &Expr) -> Found<'a>
+        ensures { IfSome result (Explains (known_at self.now)) }
     {
         if self.rule != Rule::Ranges {
             return None;
@@ -61,8 +61,8 @@ impl<'a> Site<'_, 'a> {
     }
 
     /// The part of the size of an array that breaks the rule. The bracket before it is at this token.
-    fn in_size(self, at: usize, size: &Expr) -> Found<'a>
-        ensures { IfSome result (Explains (known_at self.entry)) }
+    fn in_size(&self, at: usize, size: &Expr) -> Found<'a>
+        ensures { IfSome result (Explains (known_at self.now)) }
     {
         let at = plus(at, 1);
         let inner = self.in_wanted(at, Wanted::Constant(ExprType::Int), size);
@@ -70,8 +70,8 @@ impl<'a> Site<'_, 'a> {
     }
 
     /// The part of a size that breaks the rule, if there is one.
-    pub(crate) fn in_any_size(self, at: usize, size: &Option<Expr>) -> Found<'a>
-        ensures { IfSome result (Explains (known_at self.entry)) }
+    pub(crate) fn in_any_size(&self, at: usize, size: &Option<Expr>) -> Found<'a>
+        ensures { IfSome result (Explains (known_at self.now)) }
     {
         match size {
             None => None,
@@ -80,8 +80,8 @@ impl<'a> Site<'_, 'a> {
     }
 
     /// The part of the items of a table that breaks the rule.
-    fn in_items(self, at: usize, value_type: ValueType, items: &OneOrMore<Expr>) -> Found<'a>
-        ensures { IfSome result (Explains (known_at self.entry)) }
+    fn in_items(&self, at: usize, value_type: ValueType, items: &OneOrMore<Expr>) -> Found<'a>
+        ensures { IfSome result (Explains (known_at self.now)) }
     {
         let wanted = Wanted::Constant(type_of_values(value_type));
         if let Some(cause) = self.in_wanted(at, wanted, &items.first) {
@@ -98,8 +98,8 @@ impl<'a> Site<'_, 'a> {
     }
 
     /// The size that is stated of a table or of a text, if it has another number of items.
-    fn other_size(self, size: &Expr, items: usize) -> Option<u32>
-        ensures { IfSome result (λ stated. (size_in (known_at self.entry) (expression_of size.now) ≡ Some stated)
+    fn other_size(&self, size: &Expr, items: usize) -> Option<u32>
+        ensures { IfSome result (λ stated. (size_in (known_at self.now) (expression_of size.now) ≡ Some stated)
             × (nat_eq stated items ≡ false)) }
     {
         let stated = size_in(self.scope, size)?;
@@ -111,8 +111,8 @@ impl<'a> Site<'_, 'a> {
 
     /// A table whose size says another number of items, whose bracket is at this token.
     #[tactic(auto, using(crate::proofs::Parts::table_broken))]
-    fn other_table(self, at: usize, size: &Expr, table: &OneOrMore<Expr>) -> Found<'a>
-        ensures { IfSome result (Explains (known_at self.entry)) }
+    fn other_table(&self, at: usize, size: &Expr, table: &OneOrMore<Expr>) -> Found<'a>
+        ensures { IfSome result (Explains (known_at self.now)) }
     {
         if self.rule != Rule::Types {
             return None;
@@ -126,8 +126,8 @@ impl<'a> Site<'_, 'a> {
 
     /// A text that is no table of its size, which is this token.
     #[tactic(auto, using(crate::proofs::Parts::text_broken, crate::proofs::Parts::ints_broken))]
-    fn no_text(self, at: usize, value_type: ValueType, size: &Expr, text: Text) -> Found<'a>
-        ensures { IfSome result (Explains (known_at self.entry)) }
+    fn no_text(&self, at: usize, value_type: ValueType, size: &Expr, text: Text) -> Found<'a>
+        ensures { IfSome result (Explains (known_at self.now)) }
     {
         if self.rule != Rule::Types {
             return None;
@@ -143,8 +143,8 @@ impl<'a> Site<'_, 'a> {
     }
 
     /// The part of the line of a constant that breaks the rule.
-    pub(crate) fn in_constant(self, constant: &Constant) -> Found<'a>
-        ensures { IfSome result (Explains (known_at self.entry)) }
+    pub(crate) fn in_constant(&self, constant: &Constant) -> Found<'a>
+        ensures { IfSome result (Explains (known_at self.now)) }
     {
         let value_type = constant.value_type;
         match &constant.value {
@@ -166,8 +166,8 @@ impl<'a> Site<'_, 'a> {
     }
 
     /// The part of the head of a procedure that breaks the rule, but for its names.
-    pub(crate) fn in_formals(self, formals: &[Formal]) -> Found<'a>
-        ensures { IfSome result (Explains (known_at self.entry)) }
+    pub(crate) fn in_formals(&self, formals: &[Formal]) -> Found<'a>
+        ensures { IfSome result (Explains (known_at self.now)) }
     {
         let mut at = 3;
         for formal in formals {

@@ -42,8 +42,8 @@ fn paired_type(operator: PairOperator) -> Option<ExprType> {
 
 impl<'a> Site<'_, 'a> {
     /// Operands of other types than their operator takes, if they alone break no rule. Of a chain each is looked at before.
-    fn in_typed(self, at: usize, expr: &Expr) -> Found<'a>
-        ensures { IfSome result (IsCause (known_at self.entry) (written (expression_of expr.now)) at) }
+    fn in_typed(&self, at: usize, expr: &Expr) -> Found<'a>
+        ensures { IfSome result (IsCause (known_at self.now) (written (expression_of expr.now)) at) }
     {
         match &*expr.operation {
             Operation::Operand(_) | Operation::Chain { .. } => None,
@@ -70,8 +70,8 @@ impl<'a> Site<'_, 'a> {
 
     /// A conversion that breaks the rule, if its operand does not.
     #[tactic(auto, using(crate::proofs::Places::itself, crate::proofs::Places::after_one))]
-    fn in_converted(self, at: usize, to: ValueType, operand: &Operand) -> Found<'a>
-        ensures { IfSome result (IsCause (known_at self.entry) (written_term (Converted to (term_of operand.now))) at) }
+    fn in_converted(&self, at: usize, to: ValueType, operand: &Operand) -> Found<'a>
+        ensures { IfSome result (IsCause (known_at self.now) (written_term (Converted to (term_of operand.now))) at) }
     {
         match self.rule {
             Rule::Types => self.unfit(plus(at, 1), operand, None),
@@ -85,8 +85,8 @@ impl<'a> Site<'_, 'a> {
 
     /// An expression that breaks the rule, if its operands alone do not.
     #[tactic(auto, using(crate::proofs::Places::itself))]
-    fn in_whole(self, at: usize, expr: &Expr) -> Found<'a>
-        ensures { IfSome result (IsCause (known_at self.entry) (written (expression_of expr.now)) at) }
+    fn in_whole(&self, at: usize, expr: &Expr) -> Found<'a>
+        ensures { IfSome result (IsCause (known_at self.now) (written (expression_of expr.now)) at) }
     {
         match self.rule {
             Rule::Types => self.in_typed(at, expr),
@@ -97,8 +97,8 @@ impl<'a> Site<'_, 'a> {
 
     /// The part of an expression that breaks the rule.
     #[cycle(search)]
-    pub(crate) fn in_expression(self, at: usize, expr: &Expr) -> Found<'a>
-        ensures { IfSome result (IsCause (known_at self.entry) (written (expression_of expr.now)) at) }
+    pub(crate) fn in_expression(&self, at: usize, expr: &Expr) -> Found<'a>
+        ensures { IfSome result (IsCause (known_at self.now) (written (expression_of expr.now)) at) }
     {
         if let Some(cause) = self.in_operands(at, expr) {
             return Some(cause);
@@ -108,8 +108,8 @@ impl<'a> Site<'_, 'a> {
 
     /// The part of an operand of an expression that breaks the rule.
     #[cycle(search)]
-    fn in_operands(self, at: usize, expr: &Expr) -> Found<'a>
-        ensures { IfSome result (IsCause (known_at self.entry) (written (expression_of expr.now)) at) }
+    fn in_operands(&self, at: usize, expr: &Expr) -> Found<'a>
+        ensures { IfSome result (IsCause (known_at self.now) (written (expression_of expr.now)) at) }
     {
         match &*expr.operation {
             Operation::Operand(operand) => self.in_operand(at, operand),
@@ -142,8 +142,8 @@ impl<'a> Site<'_, 'a> {
 
     /// The part of one of the further operands of a chain that breaks the rule.
     #[cycle(search)]
-    fn in_others(self, at: usize, operator: ChainOperator, others: &[Operand]) -> Found<'a>
-        ensures { IfSome result (IsCause (known_at self.entry) (written_others operator (map term_of others.now)) at) }
+    fn in_others(&self, at: usize, operator: ChainOperator, others: &[Operand]) -> Found<'a>
+        ensures { IfSome result (IsCause (known_at self.now) (written_others operator (map term_of others.now)) at) }
     {
         let mut next = at;
         for other in others {
@@ -157,8 +157,8 @@ impl<'a> Site<'_, 'a> {
 
     /// The part of an operand that breaks the rule, where an operator joins it to others.
     #[cycle(search)]
-    fn in_joined(self, at: usize, operator: ChainOperator, operand: &Operand) -> Found<'a>
-        ensures { IfSome result (IsCause (known_at self.entry) (written_term (term_of operand.now)) at) }
+    fn in_joined(&self, at: usize, operator: ChainOperator, operand: &Operand) -> Found<'a>
+        ensures { IfSome result (IsCause (known_at self.now) (written_term (term_of operand.now)) at) }
     {
         if let Some(cause) = self.in_operand(at, operand) {
             return Some(cause);
@@ -171,8 +171,8 @@ impl<'a> Site<'_, 'a> {
 
     /// The part of an operand that breaks the rule.
     #[cycle(search)]
-    fn in_operand(self, at: usize, operand: &Operand) -> Found<'a>
-        ensures { IfSome result (IsCause (known_at self.entry) (written_term (term_of operand.now)) at) }
+    fn in_operand(&self, at: usize, operand: &Operand) -> Found<'a>
+        ensures { IfSome result (IsCause (known_at self.now) (written_term (term_of operand.now)) at) }
     {
         match operand {
             Operand::Integer(_)

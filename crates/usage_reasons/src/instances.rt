@@ -41,8 +41,8 @@ pub(crate) struct Instance<'s, 'a> {
 impl<'a> Site<'_, 'a> {
     /// The part of an actual that breaks a rule of expressions.
     #[tactic(auto, using(crate::proofs::Parts::of_cause_if, crate::proofs::Parts::first_of))]
-    fn in_passed(self, passed: Passed) -> Found<'a>
-        ensures { IfSome result (Explains (known_at self.entry)) }
+    fn in_passed(&self, passed: Passed) -> Found<'a>
+        ensures { IfSome result (Explains (known_at self.now)) }
     {
         let at = passed.tokens.at;
         let Some(place) = place_in(passed.actual) else {
@@ -63,10 +63,10 @@ impl<'a> Site<'_, 'a> {
 
 impl<'s, 'a> Instance<'s, 'a> {
     /// The actual with this number, whose first token is this one.
-    fn passed(self, place: usize, at: usize) -> Option<Passed<'s, 'a>>
+    fn passed(&self, place: usize, at: usize) -> Option<Passed<'s, 'a>>
         ensures parameter { IfSome result (λ p. option_map (λ q. parameter_of q.now) p.parameter
-            ≡ item_at place (parameters_for self.entry)) }
-        ensures actual { IfSome result (λ p. slice_get (map expression_of self.entry.actuals.now) place
+            ≡ item_at place (parameters_for self.now)) }
+        ensures actual { IfSome result (λ p. slice_get (map expression_of self.now.actuals.now) place
             ≡ Some (expression_of p.actual.now)) }
     {
         let actual = self.actuals.get(place)?;
@@ -82,8 +82,8 @@ impl<'s, 'a> Instance<'s, 'a> {
 
     /// The part of the instance that breaks a rule of expressions.
     #[tactic(auto, using(crate::proofs::Parts::of_cause))]
-    pub(crate) fn breaks(self) -> Found<'a>
-        ensures { IfSome result (Explains (known_at self.entry.site)) }
+    pub(crate) fn breaks(&self) -> Found<'a>
+        ensures { IfSome result (Explains (known_at self.now.site)) }
     {
         if self.site.rule == Rule::Names || self.site.rule == Rule::Types {
             if let Some(cause) = self.site.in_name(Sort::Procedure, 0, self.name) {
@@ -103,7 +103,7 @@ impl<'s, 'a> Instance<'s, 'a> {
 
     /// An actual that its parameter does not take, or another number of them than of parameters.
     #[tactic(auto, using(crate::specs::AtFault::other_count))]
-    pub(crate) fn other_actual(self) -> Found<'a>
+    pub(crate) fn other_actual(&self) -> Found<'a>
         ensures { IfSome result IsAtFault }
     {
         let actuals = self.actuals.len();
@@ -120,7 +120,7 @@ impl<'s, 'a> Instance<'s, 'a> {
     }
 
     /// An actual that may not be passed here: its parameter does not take it, it is a channel, or it is passed twice.
-    pub(crate) fn mispassed(self) -> Found<'a>
+    pub(crate) fn mispassed(&self) -> Found<'a>
         ensures { IfSome result IsAtFault }
     {
         let mut at = ACTUALS;
@@ -140,7 +140,7 @@ impl<'s, 'a> Instance<'s, 'a> {
     }
 
     /// This actual, if it may not be passed beside one before it.
-    fn passed_before(self, second: Passed<'s, 'a>) -> Found<'a>
+    fn passed_before(&self, second: Passed<'s, 'a>) -> Found<'a>
         ensures { IfSome result IsAtFault }
     {
         let mut at = ACTUALS;

@@ -90,6 +90,18 @@ impl<'a> Walk<'_, 'a> {
     }
 }
 
+/// What a walk over a program finds, on the way to a fault.
+fn searched<'a>(
+    alloc: Global,
+    tokens: &[Token<'a>],
+    program: &Program<'a>,
+    fault: UsageFault,
+) -> Result<Option<Reason<'a>>, AllocError> {
+    let mut walk = Walk::new(alloc, tokens, fault);
+    walk.items(program.items());
+    walk.found()
+}
+
 /// Why a program breaks a usage rule on a line, as [`check`](usage_checks::check) reports it: which tokens of the line
 /// are meant, why, and what is known of the names in them. The tokens are those of that line.
 pub fn usage_reason<'a>(
@@ -112,11 +124,6 @@ pub fn usage_reason<'a>(
         let reason = main_reason(alloc, program.items(), fault.line);
         return Ok(tested(tokens.len(), fault, reason));
     }
-    let mut walk = Walk::new(alloc, tokens, fault);
-    walk.items(program.items());
-    if walk.complete {
-        Ok(tested(tokens.len(), fault, walk.reason))
-    } else {
-        Err(AllocError)
-    }
+    let reason = searched(alloc, tokens, program, fault)?;
+    Ok(tested(tokens.len(), fault, reason))
 }

@@ -40,8 +40,8 @@ const CHANNEL: Role = (
 
 impl<'a> Site<'_, 'a> {
     /// The part of an expression that breaks the rule where this is wanted.
-    pub(crate) fn in_wanted(self, at: usize, wanted: Wanted, expr: &Expr) -> Found<'a>
-        ensures { IfSome result (Explains (known_at self.entry)) }
+    pub(crate) fn in_wanted(&self, at: usize, wanted: Wanted, expr: &Expr) -> Found<'a>
+        ensures { IfSome result (Explains (known_at self.now)) }
     {
         match (self.rule, wanted) {
             (Rule::Constants, Wanted::Anything | Wanted::Value(_)) => None,
@@ -54,8 +54,8 @@ impl<'a> Site<'_, 'a> {
     }
 
     /// The part of the subscript of a place that breaks the rule, if there is one. The place begins at this token.
-    pub(crate) fn in_subscript(self, at: usize, wanted: Wanted, place: PlaceRef) -> Found<'a>
-        ensures { IfSome result (Explains (known_at self.entry)) }
+    pub(crate) fn in_subscript(&self, at: usize, wanted: Wanted, place: PlaceRef) -> Found<'a>
+        ensures { IfSome result (Explains (known_at self.now)) }
     {
         let subscript = place.subscript?;
         let at = plus(at, 2);
@@ -64,8 +64,8 @@ impl<'a> Site<'_, 'a> {
     }
 
     /// The part of a place that breaks the rule, which has to be this.
-    fn in_place(self, at: usize, role: Role, place: &Place) -> Found<'a>
-        ensures { IfSome result (Explains (known_at self.entry)) }
+    fn in_place(&self, at: usize, role: Role, place: &Place) -> Found<'a>
+        ensures { IfSome result (Explains (known_at self.now)) }
     {
         let (whole, element, wanted) = role;
         let sort = if place.subscript.is_some() {
@@ -81,8 +81,8 @@ impl<'a> Site<'_, 'a> {
     }
 
     /// The type of a variable, of the elements of an array, or of what a channel carries, which has this name.
-    fn carried_by(self, name: &[u8]) -> Option<ExprType>
-        ensures { result ≡ carried (meaning_in name.now (known_at self.entry)) }
+    fn carried_by(&self, name: &[u8]) -> Option<ExprType>
+        ensures { result ≡ carried (meaning_in name.now (known_at self.now)) }
     {
         match self.scope.meaning(name)? {
             Meaning::Constant { value_type, .. }
@@ -96,8 +96,8 @@ impl<'a> Site<'_, 'a> {
 
     /// A value of another type than the place that it goes to, which is the first of the line.
     #[tactic(auto, using(crate::proofs::Parts::value_broken))]
-    fn other_value(self, place: &Place, value: &Expr) -> Found<'a>
-        ensures { IfSome result (Explains (known_at self.entry)) }
+    fn other_value(&self, place: &Place, value: &Expr) -> Found<'a>
+        ensures { IfSome result (Explains (known_at self.now)) }
     {
         if self.rule != Rule::Types {
             return None;
@@ -121,8 +121,8 @@ impl<'a> Site<'_, 'a> {
 
     /// A variable of another type than the channel from which it is received, whose tokens these are. The variable begins
     /// at this token.
-    fn other_target(self, at: usize, channel: &[u8], place: Tokens, target: &Place) -> Found<'a>
-        ensures { IfSome result (Explains (known_at self.entry)) }
+    fn other_target(&self, at: usize, channel: &[u8], place: Tokens, target: &Place) -> Found<'a>
+        ensures { IfSome result (Explains (known_at self.now)) }
     {
         if self.rule != Rule::Types {
             return None;
@@ -141,8 +141,8 @@ impl<'a> Site<'_, 'a> {
     }
 
     /// The part of a value that breaks the rule, which goes to a place.
-    fn in_value(self, place: &Place, value: &Expr) -> Found<'a>
-        ensures { IfSome result (Explains (known_at self.entry)) }
+    fn in_value(&self, place: &Place, value: &Expr) -> Found<'a>
+        ensures { IfSome result (Explains (known_at self.now)) }
     {
         let next = plus(width_of_place(place), 1);
         let inner = self.in_wanted(next, Wanted::Anything, value);
@@ -150,24 +150,24 @@ impl<'a> Site<'_, 'a> {
     }
 
     /// The part of an assignment that breaks the rule.
-    pub(crate) fn in_assignment(self, target: &Place, value: &Expr) -> Found<'a>
-        ensures { IfSome result (Explains (known_at self.entry)) }
+    pub(crate) fn in_assignment(&self, target: &Place, value: &Expr) -> Found<'a>
+        ensures { IfSome result (Explains (known_at self.now)) }
     {
         self.in_place(0, TARGET, target)
             .or(self.in_value(target, value))
     }
 
     /// The part of an output that breaks the rule.
-    pub(crate) fn in_sent(self, channel: &Place, value: &Expr) -> Found<'a>
-        ensures { IfSome result (Explains (known_at self.entry)) }
+    pub(crate) fn in_sent(&self, channel: &Place, value: &Expr) -> Found<'a>
+        ensures { IfSome result (Explains (known_at self.now)) }
     {
         let left = self.in_place(0, CHANNEL, channel);
         left.or(self.in_value(channel, value))
     }
 
     /// The part of an input that breaks the rule, which begins at this token.
-    pub(crate) fn in_received(self, at: usize, channel: &Place, target: &Place) -> Found<'a>
-        ensures { IfSome result (Explains (known_at self.entry)) }
+    pub(crate) fn in_received(&self, at: usize, channel: &Place, target: &Place) -> Found<'a>
+        ensures { IfSome result (Explains (known_at self.now)) }
     {
         let len = width_of_place(channel);
         let next = plus_between(at, len);
@@ -178,8 +178,8 @@ impl<'a> Site<'_, 'a> {
 
     /// A count that is below 0.
     #[tactic(auto, using(crate::proofs::Parts::count_broken))]
-    fn count_below_zero(self, at: usize, expr: &Expr) -> Found<'a>
-        ensures { IfSome result (Explains (known_at self.entry)) }
+    fn count_below_zero(&self, at: usize, expr: &Expr) -> Found<'a>
+        ensures { IfSome result (Explains (known_at self.now)) }
     {
         if self.rule != Rule::Ranges {
             return None;
@@ -193,7 +193,7 @@ impl<'a> Site<'_, 'a> {
 
     /// A base and a count whose last index is beyond the greatest INT.
     #[tactic(auto, using(crate::specs::AtFault::left_out))]
-    fn last_index(self, replicator: &Replicator) -> Found<'a>
+    fn last_index(&self, replicator: &Replicator) -> Found<'a>
         ensures { IfSome result IsAtFault }
     {
         if self.rule != Rule::Ranges {
@@ -209,7 +209,7 @@ impl<'a> Site<'_, 'a> {
     }
 
     /// The part of the head of a replicated block that breaks the rule.
-    pub(crate) fn in_replicator(self, replicator: &Replicator) -> Found<'a>
+    pub(crate) fn in_replicator(&self, replicator: &Replicator) -> Found<'a>
         ensures { IfSome result IsAtFault }
     {
         let wanted = Wanted::Constant(ExprType::Int);

@@ -28,19 +28,21 @@ fn is_swapped(first: &[u8], second: &[u8]) -> bool {
     }
 }
 
+/// The bytes behind the first one, if there are any.
+fn behind_first(bytes: &[u8]) -> &[u8] {
+    match bytes.split_first() {
+        Some((_, rest)) => rest,
+        None => bytes,
+    }
+}
+
 /// Whether a name is another one with one byte changed, left out or put in, or with two neighbours that have changed
 /// places.
 fn is_near(first: &[u8], second: &[u8]) -> bool {
     let front = common_front(first, second);
     let (rest, other) = (&first[front..], &second[front..]);
-    match (rest.split_first(), other.split_first()) {
-        (None, None) => true,
-        (Some((_, rest)), None) => rest.is_empty(),
-        (None, Some((_, other))) => other.is_empty(),
-        (Some((_, after)), Some((_, other_after))) => {
-            after == other_after || after == other || rest == other_after || is_swapped(rest, other)
-        }
-    }
+    let (after, other_after) = (behind_first(rest), behind_first(other));
+    after == other_after || after == other || rest == other_after || is_swapped(rest, other)
 }
 
 /// The innermost name in scope that is spelled nearly as this one, which has more than one byte.

@@ -93,8 +93,8 @@ fn joined(operator: ArithmeticChain, ranges: Ranges) -> Option<Range> {
 impl<'a> Site<'_, 'a> {
     /// Why a conversion of an operand to this type fails.
     #[tactic(auto, using(crate::proofs::Causes::operators_fail))]
-    pub(crate) fn conversion_fails(self, to: ValueType, operand: &Operand) -> Option<Why<'a>>
-        ensures { IfSome result (Breaks (known_at self.entry) (written_term (Converted to (term_of operand.now)))) }
+    pub(crate) fn conversion_fails(&self, to: ValueType, operand: &Operand) -> Option<Why<'a>>
+        ensures { IfSome result (Breaks (known_at self.now) (written_term (Converted to (term_of operand.now)))) }
     {
         let Ok(operand) = read_operand(self.scope, operand).range() else {
             return None;
@@ -106,10 +106,10 @@ impl<'a> Site<'_, 'a> {
     }
 
     /// Where two operands lie, if both have a range.
-    fn ranges_of(self, left: &Operand, right: &Operand) -> Option<Ranges>
+    fn ranges_of(&self, left: &Operand, right: &Operand) -> Option<Ranges>
         ensures { IfSome result (λ r.
-            (range_found (bound_of_term (known_at self.entry) (term_of left.now)) ≡ Ok (ends_of r.left))
-            × (range_found (bound_of_term (known_at self.entry) (term_of right.now)) ≡ Ok (ends_of r.right))) }
+            (range_found (bound_of_term (known_at self.now) (term_of left.now)) ≡ Ok (ends_of r.left))
+            × (range_found (bound_of_term (known_at self.now) (term_of right.now)) ≡ Ok (ends_of r.right))) }
     {
         match (
             read_operand(self.scope, left).range(),
@@ -124,13 +124,13 @@ impl<'a> Site<'_, 'a> {
     /// that one.
     #[tactic(auto, using(crate::proofs::Causes::joined_first))]
     fn chain_ranges(
-        self,
+        &self,
         operator: ArithmeticChain,
         first: &Operand,
         second: &Operand,
         others: &[Operand],
     ) -> Option<Ranges>
-        ensures { IfSome result (λ r. AreJoined (known_at self.entry)
+        ensures { IfSome result (λ r. AreJoined (known_at self.now)
             (with_others (Two (term_of first.now) (term_of second.now)) (map term_of others.now)) r.left r.right) }
     {
         let mut ranges = self.ranges_of(first, second)?;
@@ -147,9 +147,9 @@ impl<'a> Site<'_, 'a> {
     }
 
     /// The operator of an expression that may fail, and where its operands lie.
-    fn operands(self, expr: &Expr) -> Option<(Operator, Ranges)>
+    fn operands(&self, expr: &Expr) -> Option<(Operator, Ranges)>
         ensures { IfSome result (λ found.
-            AreOperands (known_at self.entry) (expression_of expr.now) found.1.left found.1.right) }
+            AreOperands (known_at self.now) (expression_of expr.now) found.1.left found.1.right) }
     {
         match &*expr.operation {
             Operation::Prefix { operand, .. } => {
@@ -179,8 +179,8 @@ impl<'a> Site<'_, 'a> {
 
     /// Why the operator of an expression fails.
     #[tactic(auto, using(crate::proofs::Causes::operators_fail))]
-    pub(crate) fn operator_fails(self, expr: &Expr) -> Option<Why<'a>>
-        ensures { IfSome result (Breaks (known_at self.entry) (written (expression_of expr.now))) }
+    pub(crate) fn operator_fails(&self, expr: &Expr) -> Option<Why<'a>>
+        ensures { IfSome result (Breaks (known_at self.now) (written (expression_of expr.now))) }
     {
         let (operator, ranges) = self.operands(expr)?;
         match read(self.scope, expr).range() {

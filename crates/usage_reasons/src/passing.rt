@@ -50,7 +50,7 @@ fn misuse<'a>(position: Position, name: &[u8], number: usize, ends: &[End]) -> O
 impl<'a> Site<'_, 'a> {
     /// An actual that is exactly a place, which its parameter does not take.
     #[tactic(auto, using(crate::specs::AtFault::not_taken))]
-    fn place_not_taken(self, passed: Passed, parameter: Meaning, place: PlaceRef) -> Found<'a>
+    fn place_not_taken(&self, passed: Passed, parameter: Meaning, place: PlaceRef) -> Found<'a>
         ensures { IfSome result IsAtFault }
     {
         let found = self.scope.meaning(place.name)?;
@@ -68,7 +68,7 @@ impl<'a> Site<'_, 'a> {
 
     /// An actual that is no place, which its parameter does not take.
     #[tactic(auto, using(crate::specs::AtFault::value_not_taken))]
-    fn value_not_taken(self, passed: Passed, parameter: Meaning) -> Found<'a>
+    fn value_not_taken(&self, passed: Passed, parameter: Meaning) -> Found<'a>
         ensures { IfSome result IsAtFault }
     {
         let Ok(found) = type_of(self.scope, passed.actual) else {
@@ -87,7 +87,7 @@ impl<'a> Site<'_, 'a> {
     }
 
     /// An actual that its parameter does not take.
-    pub(crate) fn not_taken(self, passed: Passed) -> Found<'a>
+    pub(crate) fn not_taken(&self, passed: Passed) -> Found<'a>
         ensures { IfSome result IsAtFault }
     {
         let parameter = passed.parameter?.meaning;
@@ -99,7 +99,7 @@ impl<'a> Site<'_, 'a> {
 
     /// The second one of two actuals, if it may not be passed beside the first one.
     #[tactic(auto, using(crate::specs::AtFault::passed_twice))]
-    pub(crate) fn passed_twice(self, first: Passed, second: Passed) -> Found<'a>
+    pub(crate) fn passed_twice(&self, first: Passed, second: Passed) -> Found<'a>
         ensures { IfSome result IsAtFault }
     {
         let one = handed_by(self.scope, first.parameter, first.actual);
@@ -115,7 +115,7 @@ impl<'a> Site<'_, 'a> {
 
     /// The tokens of a channel of this name, if it may not be used here at these ends.
     #[tactic(auto, using(crate::specs::AtFault::misused))]
-    fn misused(self, tokens: Tokens, name: &[u8], ends: &[End]) -> Found<'a>
+    fn misused(&self, tokens: Tokens, name: &[u8], ends: &[End]) -> Found<'a>
         ensures { IfSome result IsAtFault }
     {
         let number = self.scope.find(name)?;
@@ -125,7 +125,7 @@ impl<'a> Site<'_, 'a> {
 
     /// A cause, or that a channel may not be used in this direction here, which begins at this token.
     pub(crate) fn or_misused(
-        self,
+        &self,
         cause: Found<'a>,
         at: usize,
         channel: &Place,
@@ -143,7 +143,7 @@ impl<'a> Site<'_, 'a> {
     }
 
     /// An actual that is a channel and may not be passed here.
-    pub(crate) fn misused_actual(self, passed: Passed) -> Found<'a>
+    pub(crate) fn misused_actual(&self, passed: Passed) -> Found<'a>
         ensures { IfSome result IsAtFault }
     {
         let parameter = passed.parameter?;

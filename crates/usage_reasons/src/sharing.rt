@@ -1,11 +1,11 @@
 //! What two components of a `PAR` share, and on which lines.
 
-ghost use Rattle.std.specs.Prelude.{IfSome};
-ghost use Rattle.usage_reasons.specs.AtFault.{IsAtFault};
+ghost use Rattle.std.specs.Prelude.{◌≡◌, true, IfSome};
+ghost use Rattle.usage_reasons.specs.AtFault.{is_left_out, IsAtFault};
 
 use crate::cause::{Found, meant};
 use crate::known::Names;
-use crate::reason::{Deed, Why};
+use crate::reason::{Deed, KnownName, Why};
 use crate::walk::Walk;
 use occam_parser::{
     Action, Body, Branch, Choice, Construct, Expr, Guard, Place, Process, Replicator,
@@ -170,38 +170,51 @@ fn deed_of(item: Use) -> Deed {
     }
 }
 
+/// The number of the variable or the channel that is used.
+fn number_of(item: Use) -> usize {
+    match item {
+        Use::Read(number) | Use::Change(number) => number,
+        Use::Channel { channel, .. } => channel,
+    }
+}
+
+impl Shared {
+    /// Why two components may not use what has this name.
+    fn why(self, name: KnownName<'_>) -> Why<'_>
+        ensures { is_left_out result ≡ true }
+    {
+        let (first, second) = (self.first_line, self.second_line);
+        match self.second {
+            Use::Read(_) | Use::Change(_) => Why::SharedVariable {
+                variable: name,
+                first,
+                first_deed: deed_of(self.first),
+                second,
+                second_deed: deed_of(self.second),
+            },
+            Use::Channel {
+                element,
+                direction,
+                ..
+            } => Why::SharedChannel {
+                channel: name,
+                element,
+                direction,
+                first,
+                second,
+            },
+        }
+    }
+}
+
 /// What components of a `PAR` share, whose first token is meant.
 #[tactic(auto, using(crate::specs::AtFault::left_out))]
 fn cause_of<'a>(names: Names<'_, 'a>, shared: Option<Shared>) -> Found<'a>
     ensures { IfSome result IsAtFault }
 {
     let shared = shared?;
-    match shared.second {
-        Use::Read(number) | Use::Change(number) => {
-            let why = Why::SharedVariable {
-                variable: names.declared(number)?,
-                first: shared.first_line,
-                first_deed: deed_of(shared.first),
-                second: shared.second_line,
-                second_deed: deed_of(shared.second),
-            };
-            Some(meant(0, 1, why))
-        }
-        Use::Channel {
-            channel,
-            element,
-            direction,
-        } => {
-            let why = Why::SharedChannel {
-                channel: names.declared(channel)?,
-                element,
-                direction,
-                first: shared.first_line,
-                second: shared.second_line,
-            };
-            Some(meant(0, 1, why))
-        }
-    }
+    let name = names.declared(number_of(shared.second))?;
+    Some(meant(0, 1, shared.why(name)))
 }
 
 impl<'a> Walk<'_, 'a> {
@@ -324,8 +337,8 @@ impl<'a> Walk<'_, 'a> {
         self.share(&branch.process);
     }
 
-    /// What an action uses.
-    fn share_action(&mut self, line: u32, action: &Action) {
+    /// Which variables an action uses.
+    fn share_variables(&mut self, line: u32, action: &Action) {
         let around = Around {
             signatures: &self.signatures,
             uncounted: None,
@@ -333,6 +346,11 @@ impl<'a> Walk<'_, 'a> {
         let mut used = Uses::new(self.alloc);
         used.act(around, &self.scope, line, action);
         self.sharing.add_uses(&used, line);
+    }
+
+    /// What an action uses.
+    fn share_action(&mut self, line: u32, action: &Action) {
+        self.share_variables(line, action);
         match action {
             Action::Skip | Action::Stop | Action::Assign { .. } => {}
             Action::Input { channel, .. } => {

@@ -41,7 +41,7 @@ pub(crate) struct Site<'s, 'a> {
 
 impl<'a> Site<'_, 'a> {
     /// Why a part of the line breaks the rule.
-    pub(crate) fn cause(self, part: Part<'_, 'a>) -> Found<'a>
+    pub(crate) fn cause(&self, part: Part<'_, 'a>) -> Found<'a>
         ensures { IfSome result IsAtFault }
     {
         match part {
@@ -58,7 +58,7 @@ impl<'a> Site<'_, 'a> {
     }
 
     /// Why an input breaks the rule, which begins at this token.
-    fn in_input(self, at: usize, channel: &Place, target: &Place) -> Found<'a>
+    fn in_input(&self, at: usize, channel: &Place, target: &Place) -> Found<'a>
         ensures { IfSome result IsAtFault }
     {
         let received = self.in_received(at, channel, target);
@@ -66,7 +66,7 @@ impl<'a> Site<'_, 'a> {
     }
 
     /// Why an action breaks the rule.
-    fn in_action(self, action: &Action<'a>) -> Found<'a>
+    fn in_action(&self, action: &Action<'a>) -> Found<'a>
         ensures { IfSome result IsAtFault }
     {
         match action {
@@ -84,11 +84,11 @@ impl<'a> Site<'_, 'a> {
     }
 
     /// Why an instance breaks the rule.
-    fn in_instance(self, name: &[u8], actuals: &[Expr<'a>]) -> Found<'a>
+    fn in_instance(&self, name: &[u8], actuals: &[Expr<'a>]) -> Found<'a>
         ensures { IfSome result IsAtFault }
     {
         let instance = Instance {
-            site: self,
+            site: *self,
             name,
             actuals,
         };
@@ -101,7 +101,7 @@ impl<'a> Site<'_, 'a> {
 
     /// A cause, or that the program goes beyond the size that is gone over, if the line breaks the rule in no other way.
     #[tactic(auto, using(crate::specs::AtFault::left_out))]
-    fn or_too_large(self, cause: Found<'a>) -> Found<'a>
+    fn or_too_large(&self, cause: Found<'a>) -> Found<'a>
         requires { IfSome cause IsAtFault }
         ensures { IfSome result IsAtFault }
     {

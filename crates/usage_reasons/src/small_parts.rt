@@ -93,8 +93,8 @@ fn why_unfit<'a>(found: Result<ExprType, u8>, wanted: Option<ExprType>) -> Optio
 impl<'a> Site<'_, 'a> {
     /// Why a name that has to be of this sort breaks the rule.
     #[tactic(auto, using(crate::proofs::Causes::names_break))]
-    fn name_breaks(self, sort: Sort, name: &[u8]) -> Option<Why<'a>>
-        ensures { IfSome result (Breaks (known_at self.entry) (Name name.now ∷ [])) }
+    fn name_breaks(&self, sort: Sort, name: &[u8]) -> Option<Why<'a>>
+        ensures { IfSome result (Breaks (known_at self.now) (Name name.now ∷ [])) }
     {
         match (self.rule, self.scope.meaning(name)) {
             (Rule::Names, None) => Some(Why::UnknownName {
@@ -110,16 +110,16 @@ impl<'a> Site<'_, 'a> {
 
     /// A name that breaks the rule, where one of this sort is wanted.
     #[tactic(auto, using(crate::proofs::Places::itself))]
-    pub(crate) fn in_name(self, sort: Sort, at: usize, name: &[u8]) -> Found<'a>
-        ensures { IfSome result (IsCause (known_at self.entry) (Name name.now ∷ []) at) }
+    pub(crate) fn in_name(&self, sort: Sort, at: usize, name: &[u8]) -> Found<'a>
+        ensures { IfSome result (IsCause (known_at self.now) (Name name.now ∷ []) at) }
     {
         Some(meant(at, 1, self.name_breaks(sort, name)?))
     }
 
     /// An operand that has another type than this one, or that is no number if no type is given.
     #[tactic(auto, using(crate::proofs::Causes::unfit_operand))]
-    pub(crate) fn unfit(self, at: usize, operand: &Operand, wanted: Option<ExprType>) -> Found<'a>
-        ensures { IfSome result (IsCause (known_at self.entry) (written_term (term_of operand.now)) at) }
+    pub(crate) fn unfit(&self, at: usize, operand: &Operand, wanted: Option<ExprType>) -> Found<'a>
+        ensures { IfSome result (IsCause (known_at self.now) (written_term (term_of operand.now)) at) }
     {
         let why = why_unfit(read_operand(self.scope, operand).expr_type, wanted)?;
         Some(meant(at, width_of_operand(operand), why))
@@ -127,8 +127,8 @@ impl<'a> Site<'_, 'a> {
 
     /// An expression that has another type than this one.
     #[tactic(auto, using(crate::proofs::Causes::unfit_expression))]
-    pub(crate) fn other_expression(self, at: usize, expr: &Expr, wanted: ExprType) -> Found<'a>
-        ensures { IfSome result (IsCause (known_at self.entry) (written (expression_of expr.now)) at) }
+    pub(crate) fn other_expression(&self, at: usize, expr: &Expr, wanted: ExprType) -> Found<'a>
+        ensures { IfSome result (IsCause (known_at self.now) (written (expression_of expr.now)) at) }
     {
         let why = why_unfit(type_of(self.scope, expr), Some(wanted))?;
         Some(meant(at, width_of(expr), why))
@@ -137,14 +137,14 @@ impl<'a> Site<'_, 'a> {
     /// Two operands of different types, with what is between them, which is this expression.
     #[tactic(auto, using(crate::proofs::Causes::other_types))]
     pub(crate) fn other_types(
-        self,
+        &self,
         at: usize,
         expr: &Expr,
         left: &Operand,
         right: &Operand,
     ) -> Found<'a>
         requires { (op : PairOperator) × (expression_of expr.now ≡ Paired op (term_of left.now) (term_of right.now)) }
-        ensures { IfSome result (IsCause (known_at self.entry) (written (expression_of expr.now)) at) }
+        ensures { IfSome result (IsCause (known_at self.now) (written (expression_of expr.now)) at) }
     {
         match (
             read_operand(self.scope, left).expr_type,
@@ -159,8 +159,8 @@ impl<'a> Site<'_, 'a> {
 
     /// Why a subscript of what has this name may be outside of it.
     #[tactic(auto, using(crate::proofs::Causes::subscripts_fail))]
-    fn outside(self, name: &[u8], subscript: &Expr) -> Option<Why<'a>>
-        ensures { IfSome result (Breaks (known_at self.entry) (written (expression_of subscript.now))) }
+    fn outside(&self, name: &[u8], subscript: &Expr) -> Option<Why<'a>>
+        ensures { IfSome result (Breaks (known_at self.now) (written (expression_of subscript.now))) }
     {
         let size = elements_in(self.scope.meaning(name)?)?;
         match range_of(self.scope, subscript) {
@@ -173,8 +173,8 @@ impl<'a> Site<'_, 'a> {
 
     /// A subscript of what has this name that breaks the rule, if no part of it breaks it.
     #[tactic(auto, using(crate::proofs::Places::itself))]
-    pub(crate) fn no_subscript(self, at: usize, name: &[u8], subscript: &Expr) -> Found<'a>
-        ensures { IfSome result (IsCause (known_at self.entry) (written (expression_of subscript.now)) at) }
+    pub(crate) fn no_subscript(&self, at: usize, name: &[u8], subscript: &Expr) -> Found<'a>
+        ensures { IfSome result (IsCause (known_at self.now) (written (expression_of subscript.now)) at) }
     {
         match self.rule {
             Rule::Types => self.other_expression(at, subscript, ExprType::Int),
@@ -187,8 +187,8 @@ impl<'a> Site<'_, 'a> {
 
     /// An element that breaks the rule by its name alone.
     #[tactic(auto, using(crate::proofs::Places::on_left))]
-    pub(crate) fn in_element(self, at: usize, name: &[u8], subscript: &Expr) -> Found<'a>
-        ensures { IfSome result (IsCause (known_at self.entry)
+    pub(crate) fn in_element(&self, at: usize, name: &[u8], subscript: &Expr) -> Found<'a>
+        ensures { IfSome result (IsCause (known_at self.now)
             (written_term (Element name.now (expression_of subscript.now))) at) }
     {
         if self.rule == Rule::Constants {

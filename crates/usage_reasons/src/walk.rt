@@ -12,7 +12,7 @@ use crate::site::{Part, Site};
 use occam_layout::Token;
 use program_uses::{DECLARED_TWICE, Signature, UsageFault};
 use scalar_ranges::{Entry, Meaning, Scope};
-use std::alloc::Global;
+use std::alloc::{AllocError, Global};
 use usage_checks::Position;
 
 /// A reason, if it is of this fault, and its tokens are among this many.
@@ -83,6 +83,15 @@ impl<'l, 'a> Walk<'l, 'a> {
     /// Whether nothing after this line is gone over.
     pub(crate) fn is_over(&self, line: u32) -> bool {
         self.reason.is_some() || !self.complete || line > self.fault.line
+    }
+
+    /// The reason that was found, if memory was enough.
+    pub(crate) fn found(&mut self) -> Result<Option<Reason<'a>>, AllocError> {
+        if self.complete {
+            Ok(self.reason.take())
+        } else {
+            Err(AllocError)
+        }
     }
 
     /// The names that are known here.

@@ -6,7 +6,7 @@ use Rattle.usage_reasons.specs.declared.reason.Tokens.{Tokens}
 use Rattle.usage_reasons.specs.declared.reason.Why.{Why}
 use Rattle.usage_reasons.specs.declared.reason.Why.TheVariants as why
 use Rattle.reason_texts.specs.Blocks.{Text}
-use Rattle.usage_texts.specs.Views.{Seen, shown_in}
+use Rattle.usage_texts.specs.Views.{Seen, quoted_in}
 use Rattle.usage_texts.specs.SizeTexts.{size_sentence}
 use Rattle.usage_texts.specs.Words.{ends_text, numbers_text}
 
@@ -20,15 +20,12 @@ divisor_text divisor = if has_zero divisor then codes "which may be 0" else code
 -- the same of operators and conversions
 unfoldable pub range_sentence : Seen → Tokens → Why → Text
 range_sentence v t (why.Overflow operator left right results) =
-    codes "`" ++ (shown_in v t ++ (codes "` is " ++ (ends_text results.lo results.hi
-    ++ (codes ", but " ++ numbers_text types.Int))))
+    quoted_in v t ++ (codes " is " ++ (ends_text results.lo results.hi ++ (codes ", but " ++ numbers_text types.Int)))
 range_sentence v t (why.Division operator dividend divisor) =
-    codes "`" ++ (shown_in v t ++ (codes "` divides " ++ (ends_text dividend.lo dividend.hi
-    ++ (codes " by " ++ (ends_text divisor.lo divisor.hi ++ (codes ", " ++ divisor_text divisor))))))
+    quoted_in v t ++ (codes " divides " ++ (ends_text dividend.lo dividend.hi ++ (codes " by "
+    ++ (ends_text divisor.lo divisor.hi ++ (codes ", " ++ divisor_text divisor)))))
 range_sentence v t (why.ShiftCount count) =
-    codes "`" ++ (shown_in v t ++ (codes "` shifts by " ++ (ends_text count.lo count.hi
-    ++ codes ", but a word is shifted by 0..31")))
+    quoted_in v t ++ (codes " shifts by " ++ (ends_text count.lo count.hi ++ codes ", but a word is shifted by 0..31"))
 range_sentence v t (why.Conversion to operand) =
-    codes "`" ++ (shown_in v t ++ (codes "` converts " ++ (ends_text operand.lo operand.hi
-    ++ (codes ", but " ++ numbers_text to))))
+    quoted_in v t ++ (codes " converts " ++ (ends_text operand.lo operand.hi ++ (codes ", but " ++ numbers_text to)))
 range_sentence v t w = size_sentence v t w

@@ -10,8 +10,8 @@ use Rattle.usage_reasons.specs.declared.reason.Tokens.{Tokens}
 use Rattle.usage_reasons.specs.declared.reason.Why.{Why}
 use Rattle.usage_reasons.specs.declared.reason.Why.TheVariants as why
 use Rattle.reason_texts.specs.Blocks.{Text}
-use Rattle.usage_texts.specs.Texts.{shown_text}
-use Rattle.usage_texts.specs.Views.{Seen, shown_in}
+use Rattle.usage_texts.specs.Texts.{shown_text, quoted_name}
+use Rattle.usage_texts.specs.Views.{Seen, quoted_in}
 use Rattle.usage_texts.specs.Words.{deed_text, way_text}
 use Rattle.usage_texts.specs.LastItems.{last_item_sentence}
 
@@ -31,15 +31,15 @@ rightly ways.Output = codes "receives from"
 -- the same of what is shared, and of channels
 unfoldable pub sharing_sentence : Seen → Tokens → Why → Text
 sharing_sentence v t (why.SharedVariable variable first first_deed second second_deed) =
-    codes "line " ++ (decimal first ++ (codes " " ++ (deed_text first_deed ++ (codes " `"
-    ++ (shown_text variable.name.now ++ (codes "`, and line " ++ (decimal second
+    codes "line " ++ (decimal first ++ (codes " " ++ (deed_text first_deed ++ (codes " "
+    ++ (quoted_name variable.name.now ++ (codes ", and line " ++ (decimal second
     ++ (codes ", in another component, " ++ (deed_text second_deed ++ codes " it")))))))))
 sharing_sentence v t (why.SharedChannel channel element direction first second) =
     codes "line " ++ (decimal first ++ (codes " " ++ (way_text direction ++ (codes " `"
     ++ (spot_text channel element ++ (codes "`, and so does line " ++ (decimal second
     ++ codes ", in another component")))))))
-sharing_sentence v t why.OutsidePar = codes "`" ++ (shown_in v t ++ codes "` is used outside a PAR in its scope")
+sharing_sentence v t why.OutsidePar = quoted_in v t ++ codes " is used outside a PAR in its scope"
 sharing_sentence v t (why.OtherDirection direction) =
-    codes "this " ++ (way_text direction ++ (codes " `" ++ (shown_in v t ++ (codes "`, but main only "
+    codes "this " ++ (way_text direction ++ (codes " " ++ (quoted_in v t ++ (codes ", but main only "
     ++ (rightly direction ++ codes " it")))))
 sharing_sentence v t w = last_item_sentence v t w

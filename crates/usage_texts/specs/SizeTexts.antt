@@ -6,7 +6,7 @@ use Rattle.reason_texts.specs.Blocks.{Text}
 use Rattle.usage_reasons.specs.declared.reason.Tokens.{Tokens}
 use Rattle.usage_reasons.specs.declared.reason.Why.{Why}
 use Rattle.usage_reasons.specs.declared.reason.Why.TheVariants as why
-use Rattle.usage_texts.specs.Views.{Seen, shown_in, array_before}
+use Rattle.usage_texts.specs.Views.{Seen, quoted_in, array_before}
 use Rattle.usage_texts.specs.Words.{ends_text, numbers_text}
 
 -- the index in the last turn
@@ -22,7 +22,6 @@ size_sentence v t (why.CountBelowZero count) =
 size_sentence v t (why.LastIndex base count) =
     codes "the last index is " ++ (signed_decimal (last_index base count) ++ (codes ", but " ++ numbers_text types.Int))
 size_sentence v t (why.Outside size subscript) =
-    codes "`" ++ (shown_in v t ++ (codes "` is " ++ (ends_text subscript.lo subscript.hi
-    ++ (codes ", but the elements of `" ++ (shown_in v (array_before t) ++ (codes "` are 0.."
-    ++ signed_decimal (pos size -ℤ pos 1)))))))
+    quoted_in v t ++ (codes " is " ++ (ends_text subscript.lo subscript.hi ++ (codes ", but the elements of "
+    ++ (quoted_in v (array_before t) ++ (codes " are 0.." ++ signed_decimal (pos size -ℤ pos 1))))))
 size_sentence v t w = codes "up to here more than 8388608 is gone over"

@@ -2,11 +2,11 @@
 use Rattle.std.specs.Prelude.{ℕ, ◌-◌, ◌==◌, ◌&&◌, Bool, not, List, length, take, drop}
 use Rattle.occam_layout.specs.declared.token.Token.{Token}
 use Rattle.reason_texts.specs.declared.block.Span.{Span}
-use Rattle.reason_texts.specs.Blocks.{Text, meant}
+use Rattle.reason_texts.specs.Blocks.{Text, meant, closing_quote}
 use Rattle.reason_texts.specs.ParseTexts.{line_span}
 use Rattle.usage_reasons.specs.declared.reason.Tokens.{Tokens}
 use Rattle.usage_texts.specs.declared.view.View.{View}
-use Rattle.usage_texts.specs.Texts.{shown_text}
+use Rattle.usage_texts.specs.Texts.{quoted_text}
 
 -- a line of a source: its bytes, the offset of the first one, and its tokens
 pub record Seen : Type 0 where
@@ -32,8 +32,12 @@ bytes_at line span = meant line span.at span.len
 unfoldable pub bytes_in : Seen → Tokens → List ℕ
 bytes_in line part = bytes_at line.bytes (span_in line part)
 
-abbrev pub shown_in : Seen → Tokens → Text
-shown_in line part = shown_text (bytes_in line part)
+-- what ends them
+unfoldable pub end_in : Seen → Tokens → Text
+end_in line part = closing_quote (span_in line part).len
+
+abbrev pub quoted_in : Seen → Tokens → Text
+quoted_in line part = quoted_text (bytes_in line part) (end_in line part)
 
 -- the name of the array whose subscript these tokens are: a bracket is between them
 abbrev pub array_before : Tokens → Tokens

@@ -19,7 +19,7 @@ impl fmt::Display for LastItemSentence<'_, '_, '_> {
     #[tactic(auto, unfolding(crate::specs::LastItems::last_item_sentence))]
     fn fmt<W: fmt::Write>(&self, f: &mut fmt::Formatter<W>) -> fmt::Result {
         let Sentence { view, tokens, why } = self.0;
-        let it = view.shown(tokens);
+        let it = view.quoted(tokens);
         match why {
             Why::NoMain(LastItem::Missing) => write!(f, "there is no procedure `main`"),
             Why::NoMain(LastItem::Constant) => write!(
@@ -27,9 +27,9 @@ impl fmt::Display for LastItemSentence<'_, '_, '_> {
                 "the last item is a constant, but the procedure `main` was wanted"
             ),
             Why::NoMain(LastItem::OtherName) => {
-                write!(f, "the last procedure is `{it}`, but `main` was wanted")
+                write!(f, "the last procedure is {it}, but `main` was wanted")
             }
-            Why::NoMain(LastItem::NoLink) => write!(f, "the parameter `{it}` of `main` is no link"),
+            Why::NoMain(LastItem::NoLink) => write!(f, "the parameter {it} of `main` is no link"),
             _ => write!(f, "{}", RangeSentence(self.0)),
         }
     }

@@ -34,15 +34,15 @@ impl fmt::Display for PassingSentence<'_, '_, '_> {
     #[tactic(auto, unfolding(crate::specs::Passing::passing_sentence))]
     fn fmt<W: fmt::Write>(&self, f: &mut fmt::Formatter<W>) -> fmt::Result {
         let Sentence { view, tokens, why } = self.0;
-        let it = view.shown(tokens);
+        let it = view.quoted(tokens);
         match why {
             Why::OtherCount {
                 actuals,
                 parameters,
             } => write!(
                 f,
-                "`{}` has {}, but is passed {}",
-                view.shown(first_of(tokens)),
+                "{} has {}, but is passed {}",
+                view.quoted(first_of(tokens)),
                 Counted(parameters, "parameter"),
                 Counted(actuals, "actual")
             ),
@@ -52,14 +52,14 @@ impl fmt::Display for PassingSentence<'_, '_, '_> {
                 ..
             } => write!(
                 f,
-                "`{it}` {} to a parameter {}",
+                "{it} {} to a parameter {}",
                 unpassed(found),
                 ShapeText(parameter)
             ),
             Why::PassedTwice { first } => write!(
                 f,
-                "`{it}` is passed twice in one instance, first as `{}`",
-                view.shown(first)
+                "{it} is passed twice in one instance, first as {}",
+                view.quoted(first)
             ),
             _ => write!(f, "{}", SharingSentence(self.0)),
         }

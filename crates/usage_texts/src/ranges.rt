@@ -40,11 +40,11 @@ impl fmt::Display for RangeSentence<'_, '_, '_> {
     #[tactic(auto, unfolding(crate::specs::RangeTexts::range_sentence))]
     fn fmt<W: fmt::Write>(&self, f: &mut fmt::Formatter<W>) -> fmt::Result {
         let Sentence { view, tokens, why } = self.0;
-        let it = view.shown(tokens);
+        let it = view.quoted(tokens);
         match why {
             Why::Overflow { results, .. } => write!(
                 f,
-                "`{it}` is {}, but {}",
+                "{it} is {}, but {}",
                 Ends {
                     lo: results.lo,
                     hi: results.hi
@@ -57,19 +57,19 @@ impl fmt::Display for RangeSentence<'_, '_, '_> {
                 ..
             } => write!(
                 f,
-                "`{it}` divides {} by {}, {}",
+                "{it} divides {} by {}, {}",
                 of_range(dividend),
                 of_range(divisor),
                 divisor_text(divisor)
             ),
             Why::ShiftCount { count } => write!(
                 f,
-                "`{it}` shifts by {}, but a word is shifted by 0..31",
+                "{it} shifts by {}, but a word is shifted by 0..31",
                 of_range(count)
             ),
             Why::Conversion { to, operand } => write!(
                 f,
-                "`{it}` converts {}, but {}",
+                "{it} converts {}, but {}",
                 of_range(operand),
                 numbers_text(to)
             ),

@@ -4,7 +4,7 @@ ghost use Rattle.std.specs.Prelude.{Some};
 ghost use Rattle.usage_texts.specs.Sentences.{sentence_text};
 ghost use Rattle.usage_texts.specs.Views.{seen};
 
-use crate::shown::Shown;
+use crate::shown::quoted_name;
 use crate::types::TypeSentence;
 use crate::view::View;
 use crate::words::sort_text;
@@ -26,22 +26,22 @@ impl fmt::Display for Sentence<'_, '_, '_> {
     #[tactic(auto, unfolding(crate::specs::Sentences::sentence_text))]
     fn fmt<W: fmt::Write>(&self, f: &mut fmt::Formatter<W>) -> fmt::Result {
         let Sentence { view, tokens, why } = *self;
-        let it = view.shown(tokens);
+        let it = view.quoted(tokens);
         match why {
             Why::UnknownName {
                 nearest: Some(name),
             } => write!(
                 f,
-                "`{it}` is not known here; the nearest name is `{}`",
-                Shown(name)
+                "{it} is not known here; the nearest name is {}",
+                quoted_name(name)
             ),
-            Why::UnknownName { nearest: None } => write!(f, "`{it}` is not known here"),
+            Why::UnknownName { nearest: None } => write!(f, "{it} is not known here"),
             Why::DeclaredTwice { first } => write!(
                 f,
-                "`{it}` is declared twice in one scope, first on line {first}"
+                "{it} is declared twice in one scope, first on line {first}"
             ),
-            Why::OtherSort { wanted } => write!(f, "`{it}` is no {}", sort_text(wanted)),
-            Why::NoConstant => write!(f, "`{it}` is no constant, but a constant was wanted"),
+            Why::OtherSort { wanted } => write!(f, "{it} is no {}", sort_text(wanted)),
+            Why::NoConstant => write!(f, "{it} is no constant, but a constant was wanted"),
             _ => write!(f, "{}", TypeSentence(*self)),
         }
     }

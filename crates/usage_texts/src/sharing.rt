@@ -6,7 +6,7 @@ ghost use Rattle.usage_texts.specs.Views.{seen};
 
 use crate::last_item::LastItemSentence;
 use crate::sentence::Sentence;
-use crate::shown::Shown;
+use crate::shown::{Shown, quoted_name};
 use crate::words::{deed_text, way_text};
 use program_uses::Direction;
 use scalar_ranges::Meaning;
@@ -49,7 +49,7 @@ impl fmt::Display for SharingSentence<'_, '_, '_> {
     #[tactic(auto, unfolding(crate::specs::Sharing::sharing_sentence))]
     fn fmt<W: fmt::Write>(&self, f: &mut fmt::Formatter<W>) -> fmt::Result {
         let Sentence { view, tokens, why } = self.0;
-        let it = view.shown(tokens);
+        let it = view.quoted(tokens);
         match why {
             Why::SharedVariable {
                 variable,
@@ -59,9 +59,9 @@ impl fmt::Display for SharingSentence<'_, '_, '_> {
                 second_deed,
             } => write!(
                 f,
-                "line {first} {} `{}`, and line {second}, in another component, {} it",
+                "line {first} {} {}, and line {second}, in another component, {} it",
                 deed_text(first_deed),
-                Shown(variable.name),
+                quoted_name(variable.name),
                 deed_text(second_deed)
             ),
             Why::SharedChannel {
@@ -76,10 +76,10 @@ impl fmt::Display for SharingSentence<'_, '_, '_> {
                 way_text(direction),
                 SpotText(channel, element)
             ),
-            Why::OutsidePar => write!(f, "`{it}` is used outside a PAR in its scope"),
+            Why::OutsidePar => write!(f, "{it} is used outside a PAR in its scope"),
             Why::OtherDirection { direction } => write!(
                 f,
-                "this {} `{it}`, but main only {} it",
+                "this {} {it}, but main only {} it",
                 way_text(direction),
                 rightly(direction)
             ),

@@ -28,7 +28,7 @@ impl fmt::Display for SizeSentence<'_, '_, '_> {
     #[tactic(auto, unfolding(crate::specs::SizeTexts::size_sentence))]
     fn fmt<W: fmt::Write>(&self, f: &mut fmt::Formatter<W>) -> fmt::Result {
         let Sentence { view, tokens, why } = self.0;
-        let it = view.shown(tokens);
+        let it = view.quoted(tokens);
         match why {
             Why::SizeBelowOne { size } => write!(
                 f,
@@ -43,9 +43,9 @@ impl fmt::Display for SizeSentence<'_, '_, '_> {
             ),
             Why::Outside { size, subscript } => write!(
                 f,
-                "`{it}` is {}, but the elements of `{}` are 0..{}",
+                "{it} is {}, but the elements of {} are 0..{}",
                 of_range(subscript),
-                view.shown(array_before(tokens)),
+                view.quoted(array_before(tokens)),
                 i64::from(size) - 1
             ),
             _ => write!(f, "up to here more than 8388608 is gone over"),

@@ -20,18 +20,18 @@ impl fmt::Display for TypeSentence<'_, '_, '_> {
     #[tactic(auto, unfolding(crate::specs::Types::type_sentence))]
     fn fmt<W: fmt::Write>(&self, f: &mut fmt::Formatter<W>) -> fmt::Result {
         let Sentence { view, tokens, why } = self.0;
-        let it = view.shown(tokens);
+        let it = view.quoted(tokens);
         match why {
             Why::OtherType { found, wanted } => write!(
                 f,
-                "`{it}` is {}, but {} was wanted",
+                "{it} is {}, but {} was wanted",
                 found_text(found),
                 wanted_text(wanted)
             ),
-            Why::NoNumber => write!(f, "`{it}` is a condition, but a number was wanted"),
+            Why::NoNumber => write!(f, "{it} is a condition, but a number was wanted"),
             Why::OtherTypes { left, right } => write!(
                 f,
-                "`{it}` compares {} with {}",
+                "{it} compares {} with {}",
                 wanted_text(left),
                 wanted_text(right)
             ),
@@ -41,17 +41,17 @@ impl fmt::Display for TypeSentence<'_, '_, '_> {
                 place,
             } => write!(
                 f,
-                "`{it}` is {}, but `{}` is {}",
+                "{it} is {}, but {} is {}",
                 found_text(found),
-                view.shown(place),
+                view.quoted(place),
                 found_text(wanted)
             ),
             Why::OtherItems { stated, items } => write!(
                 f,
-                "`{it}` has {}, but its size is {stated}",
+                "{it} has {}, but its size is {stated}",
                 Counted(items, "item")
             ),
-            Why::TextOfInts => write!(f, "`{it}` is a table of BYTE, but one of INT was wanted"),
+            Why::TextOfInts => write!(f, "{it} is a table of BYTE, but one of INT was wanted"),
             _ => write!(f, "{}", PassingSentence(self.0)),
         }
     }

@@ -1,11 +1,11 @@
 //! Parts of a line by their tokens.
 
 ghost use Rattle.std.specs.Prelude.{◌≡◌, ◌<◌, ◌^◌};
-ghost use Rattle.usage_texts.specs.Views.{seen, tokens_in, span_in, bytes_in, array_before, first_of, has_tokens};
+ghost use Rattle.usage_texts.specs.Views.{seen, tokens_in, span_in, bytes_in, end_in, array_before, first_of, has_tokens};
 
-use crate::shown::Shown;
+use crate::shown::Quoted;
 use occam_layout::Token;
-use reason_texts::{Span, line_span, meant};
+use reason_texts::{Span, closing_quote, line_span, meant};
 use usage_reasons::Tokens;
 
 /// A line of a source.
@@ -36,13 +36,17 @@ impl<'v> View<'v, '_> {
         line_span(self.offset, tokens_in(self.tokens, part))
     }
 
-    /// The bytes of tokens of the line, of which at most 100 are shown.
-    #[tactic(auto, unfolding(crate::specs::Views::bytes_in))]
-    pub(crate) fn shown(self, part: Tokens) -> Shown<'v>
-        ensures { result.0.now ≡ bytes_in (seen self.entry) part }
+    /// The bytes of tokens of the line in quotes, of which at most 100 are shown.
+    #[tactic(auto, unfolding(crate::specs::Views::bytes_in, crate::specs::Views::end_in))]
+    pub(crate) fn quoted(self, part: Tokens) -> Quoted<'v>
+        ensures bytes { result.bytes.now ≡ bytes_in (seen self.entry) part }
+        ensures end { result.end.now ≡ end_in (seen self.entry) part }
     {
         let span = self.span(part);
-        Shown(meant(self.bytes, span.at, span.len))
+        Quoted {
+            bytes: meant(self.bytes, span.at, span.len),
+            end: closing_quote(span.len),
+        }
     }
 }
 

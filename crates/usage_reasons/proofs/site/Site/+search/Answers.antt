@@ -18,12 +18,12 @@ in_operand-returns-in-Some-in_expression t c =
     let name = c.in-Element.name.now in
     let e = expression_of c.in-Element.subscript in
     let view : term_of c.args.operand.now ≡ Element name e = search (rules, the_lemmas) in
-    in_subscript (entries_of c.args.self.scope.now) (term_of c.args.operand.now) name e c.args.at c.plus-next.result
+    in_subscript (entries_of c.args.self.now.scope.now) (term_of c.args.operand.now) name e c.args.at c.plus-next.result
     c.in-Some-in_expression.cause view c.plus-next.ensures c.in-Some-in_expression.ensures
 
 pub in_operand-returns-in_default-in_expression : goal.in_operand-returns-in_default-in_expression
 in_operand-returns-in_default-in_expression t c =
-    let es = entries_of c.args.self.scope.now in
+    let es = entries_of c.args.self.now.scope.now in
     let name = c.in-Element.name.now in
     let e = expression_of c.in-Element.subscript in
     let whole = term_of c.args.operand.now in
@@ -35,7 +35,7 @@ in_operand-returns-in_default-in_expression t c =
 
 pub in_operand-returns-in-Bracketed : goal.in_operand-returns-in-Bracketed
 in_operand-returns-in-Bracketed t c =
-    let es = entries_of c.args.self.scope.now in
+    let es = entries_of c.args.self.now.scope.now in
     let e = expression_of c.in-Bracketed.inner in
     let whole = term_of c.args.operand.now in
     let view : whole ≡ Bracketed e = search (rules, the_lemmas) in
@@ -49,7 +49,7 @@ in_operand-returns-in-Some-in_operand t c =
     let to = c.in-Converted.to in
     let whole = term_of c.args.operand.now in
     let seen : whole ≡ Converted to (term_of c.in-Converted.operand.value) = search (rules, the_lemmas) in
-    in_conversion (entries_of c.args.self.scope.now) whole to (term_of c.deref.result.now) c.args.at
+    in_conversion (entries_of c.args.self.now.scope.now) whole to (term_of c.deref.result.now) c.args.at
     c.plus-in-Converted.result c.in-Some-in_operand.cause
     (seen ∙ ap (λ o. Converted to (term_of o)) (sym c.deref.ensures)) c.plus-in-Converted.ensures
     c.in-Some-in_operand.ensures
@@ -60,11 +60,11 @@ in_operands-returns-in-Some t c =
     let b = term_of c.in-Pair.right in
     let whole = expression_of c.args.expr.now in
     let view : whole ≡ Paired c.in-Pair.operator a b = search (rules, the_lemmas) in
-    in_left (entries_of c.args.self.scope.now) whole c.in-Pair.operator a b c.args.at c.in-Some.cause view c.in-Some.ensures
+    in_left (entries_of c.args.self.now.scope.now) whole c.in-Pair.operator a b c.args.at c.in-Some.cause view c.in-Some.ensures
 
 pub in_operands-returns-in-Prefix : goal.in_operands-returns-in-Prefix
 in_operands-returns-in-Prefix t c =
-    let es = entries_of c.args.self.scope.now in
+    let es = entries_of c.args.self.now.scope.now in
     let op = c.in-Prefix.operator in
     let part = term_of c.in-Prefix.operand in
     let whole = expression_of c.args.expr.now in
@@ -76,7 +76,7 @@ in_operands-returns-in-Prefix t c =
 
 pub in_operands-returns-in_default : goal.in_operands-returns-in_default
 in_operands-returns-in_default t c =
-    let es = entries_of c.args.self.scope.now in
+    let es = entries_of c.args.self.now.scope.now in
     let op = c.in-Pair.operator in
     let a = term_of c.in-Pair.left in
     let b = term_of c.in-Pair.right in
@@ -90,7 +90,7 @@ in_operands-returns-in_default t c =
 
 pub in_others-returns-in-Some : goal.in_others-returns-in-Some
 in_others-returns-in-Some t c =
-    in_other (entries_of c.args.self.scope.now) c.args.operator c.args.others.now c.loop-other.other-index
+    in_other (entries_of c.args.self.now.scope.now) c.args.operator c.args.others.now c.loop-other.other-index
     c.other-item.result c.args.at c.loop-other.next c.plus.result c.in-Some.cause (omega arith) c.other-item.is
     c.loop-other.invariant c.plus.ensures c.in-Some.ensures
 
@@ -105,7 +105,7 @@ in_operands-returns-in-Some-in_joined t c =
     let k = c.in-Chain in
     let whole = expression_of c.args.expr.now in
     let is : whole ≡ operation_of (Chain k.operator k.first k.second k.others) = search (rules, the_lemmas) in
-    chain_first (entries_of c.args.self.scope.now) whole k.operator (term_of k.first) (term_of k.second)
+    chain_first (entries_of c.args.self.now.scope.now) whole k.operator (term_of k.first) (term_of k.second)
     (map term_of k.others.items) c.args.at c.in-Some-in_joined.cause
     (is ∙ view-Chain k.operator k.first k.second k.others) c.in-Some-in_joined.ensures
 
@@ -114,7 +114,7 @@ in_operands-returns-in-Some-in_joined-2 t c =
     let k = c.in-Chain in
     let whole = expression_of c.args.expr.now in
     let is : whole ≡ operation_of (Chain k.operator k.first k.second k.others) = search (rules, the_lemmas) in
-    chain_second (entries_of c.args.self.scope.now) whole k.operator (term_of k.first) (term_of k.second)
+    chain_second (entries_of c.args.self.now.scope.now) whole k.operator (term_of k.first) (term_of k.second)
     (map term_of k.others.items) c.args.at c.width_of_operand-in-Chain.result c.plus_between-next-in-Chain.result
     c.in-Some-in_joined-2.cause (is ∙ view-Chain k.operator k.first k.second k.others)
     c.width_of_operand-in-Chain.ensures c.plus_between-next-in-Chain.ensures c.in-Some-in_joined-2.ensures
@@ -122,7 +122,7 @@ in_operands-returns-in-Some-in_joined-2 t c =
 pub in_operands-returns-in_default-in_joined-2 : goal.in_operands-returns-in_default-in_joined-2
 in_operands-returns-in_default-in_joined-2 t c =
     let k = c.in-Chain in
-    let es = entries_of c.args.self.scope.now in
+    let es = entries_of c.args.self.now.scope.now in
     let whole = expression_of c.args.expr.now in
     let others = c.deref-in-Chain.result.now in
     let is : whole ≡ operation_of (Chain k.operator k.first k.second k.others) = search (rules, the_lemmas) in

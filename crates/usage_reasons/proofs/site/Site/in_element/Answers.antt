@@ -11,7 +11,7 @@ use Rattle.usage_reasons.proofs.site.Site.in_element.Goals as goal
 
 pub returns-then-eq : goal.returns-then-eq
 returns-then-eq c =
-    let es = known_at c.args.self in
+    let es = known_at c.args.self.now in
     let e = expression_of c.args.subscript.now in
     subst (IsCause es (written_term (Element c.args.name.now e)) c.args.at) (sym c.meant.ensures)
     (element_no_constant es c.args.name.now e c.args.at c.width_of.result c.plus-len.result
@@ -19,7 +19,7 @@ returns-then-eq c =
 
 pub returns : goal.returns
 returns c =
-    let es = known_at c.args.self in
+    let es = known_at c.args.self.now in
     let name = c.args.name.now in
     let e = expression_of c.args.subscript.now in
     of_found (IsCause es (Name name ∷ []) c.args.at) (IsCause es (written_term (Element name e)) c.args.at)

@@ -7,7 +7,7 @@ use Rattle.usage_reasons.proofs.site.Site.in_replicator.Goals as goal
 
 pub returns : goal.returns
 returns c =
-    let es = known_at c.args.self in
+    let es = known_at c.args.self.now in
     first_of IsAtFault c.or.result c.last_index.result c.or-2.result c.or-2.ensures
     (explained_if es c.or.result
     (first_of (Explains es) c.or-inner.result c.count_below_zero-below.result c.or.result c.or.ensures

@@ -9,7 +9,7 @@ use Rattle.usage_reasons.proofs.site.Site.in_typed.Goals as goal
 
 pub returns-in-Prefix : goal.returns-in-Prefix
 returns-in-Prefix c =
-    let es = known_at c.args.self in
+    let es = known_at c.args.self.now in
     let op = c.in-Prefix.operator in
     let part = term_of c.in-Prefix.operand in
     let whole = expression_of c.args.expr.now in
@@ -23,7 +23,7 @@ returns-in-Some c =
     let b = term_of c.in-Pair.right in
     let whole = expression_of c.args.expr.now in
     let view : whole ≡ Paired c.in-Pair.operator a b = search (rules, the_lemmas) in
-    in_left (known_at c.args.self) whole c.in-Pair.operator a b c.args.at c.in-Some.cause view c.in-Some.ensures
+    in_left (known_at c.args.self.now) whole c.in-Pair.operator a b c.args.at c.in-Some.cause view c.in-Some.ensures
 
 pub returns-in-Some-unfit : goal.returns-in-Some-unfit
 returns-in-Some-unfit c =
@@ -31,6 +31,6 @@ returns-in-Some-unfit c =
     let b = term_of c.in-Pair.right in
     let whole = expression_of c.args.expr.now in
     let view : whole ≡ Paired c.in-Pair.operator a b = search (rules, the_lemmas) in
-    in_right (known_at c.args.self) whole c.in-Pair.operator a b c.args.at c.width_of_operand.result
+    in_right (known_at c.args.self.now) whole c.in-Pair.operator a b c.args.at c.width_of_operand.result
     c.plus_between-next.result c.in-Some-unfit.cause view c.width_of_operand.ensures c.plus_between-next.ensures
     c.in-Some-unfit.ensures

@@ -7,7 +7,7 @@ use Rattle.usage_reasons.proofs.site.Site.other_target.Goals as goal
 
 pub returns : goal.returns
 returns c =
-    let es = known_at c.args.self in
+    let es = known_at c.args.self.now in
     subst (Explains es) (sym c.meant.ensures)
     (target_broken es c.args.channel.now (place_of c.args.target.now) c.in_ok-found.found c.in_ok-wanted.wanted
     c.args.at c.width_of_place.result c.args.place c.width_of_place.ensures

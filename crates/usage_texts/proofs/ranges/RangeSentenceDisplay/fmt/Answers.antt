@@ -6,12 +6,12 @@ pub returns-in-Division-clause-writes : goal.returns-in-Division-clause-writes
 unfolding range_sentence
 returns-in-Division-clause-writes g c =
     λ plain ok. has_written_of_eq _ _ _ _ _
-    (rw (c.in-Division.is, c.shown-it.ensures, c.divisor_text.ensures, c.of_range.ensures, c.of_range-in-Division.ensures))
+    (rw (c.in-Division.is, c.quoted-it.ensures.bytes, c.quoted-it.ensures.end, c.divisor_text.ensures, c.of_range.ensures, c.of_range-in-Division.ensures))
     (c.write-in-Division.ensures.writes plain ok)
 
 pub returns-in-ShiftCount-clause-writes : goal.returns-in-ShiftCount-clause-writes
 unfolding range_sentence
 returns-in-ShiftCount-clause-writes g c =
     λ plain ok. has_written_of_eq _ _ _ _ _
-    (rw (c.in-ShiftCount.is, c.shown-it.ensures, c.of_range-in-ShiftCount.ensures))
+    (rw (c.in-ShiftCount.is, c.quoted-it.ensures.bytes, c.quoted-it.ensures.end, c.of_range-in-ShiftCount.ensures))
     (c.write-in-ShiftCount.ensures.writes plain ok)

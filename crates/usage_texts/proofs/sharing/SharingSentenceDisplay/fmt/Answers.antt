@@ -6,5 +6,5 @@ pub returns-in-OtherDirection-clause-writes : goal.returns-in-OtherDirection-cla
 unfolding sharing_sentence
 returns-in-OtherDirection-clause-writes g c =
     λ plain ok. has_written_of_eq _ _ _ _ _
-    (rw (c.in-OtherDirection.is, c.way_text-in-OtherDirection.ensures, c.shown-it.ensures, c.rightly.ensures))
+    (rw (c.in-OtherDirection.is, c.way_text-in-OtherDirection.ensures, c.quoted-it.ensures.bytes, c.quoted-it.ensures.end, c.rightly.ensures))
     (c.write-in-OtherDirection.ensures.writes plain ok)
