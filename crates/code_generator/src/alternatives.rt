@@ -119,10 +119,10 @@ impl<'a> ProcessWriter<'a> {
     #[inline(never)]
     pub(crate) fn write_alt(
         &mut self,
-        around: Surroundings<'_, 'a>,
+        around: &Surroundings<'_, 'a>,
         branches: &[Branch<'a>],
     ) -> Result<(), GenFault>
-        ensures { IfOk result (λ _. FollowsAlt self.old self.new around.entry (all_branches branches.now)) }
+        ensures { IfOk result (λ _. FollowsAlt self.old self.new around.now (all_branches branches.now)) }
     {
         let guards = self.guards_of(around.limits, branches)?;
         let labels = self.choose(&guards)?;
@@ -137,12 +137,12 @@ impl<'a> ProcessWriter<'a> {
     #[cycle(processes)]
     fn write_branches(
         &mut self,
-        around: Surroundings<'_, 'a>,
+        around: &Surroundings<'_, 'a>,
         labels: Labels,
         guards: &Guards,
         branches: &[Branch<'a>],
     ) -> Result<(), GenFault>
-        ensures { IfOk result (λ _. WritesBranches self.old self.new around.entry
+        ensures { IfOk result (λ _. WritesBranches self.old self.new around.now
             (exits_in labels guards.now.sources.items) (all_branches branches.now)) }
     {
         for (number, branch) in branches.iter().enumerate() {
@@ -157,12 +157,12 @@ impl<'a> ProcessWriter<'a> {
     #[inline(never)]
     pub(crate) fn write_repeated_alt(
         &mut self,
-        around: Surroundings<'_, 'a>,
+        around: &Surroundings<'_, 'a>,
         line: u32,
         replicator: &Replicator<'a>,
         branch: &Branch<'a>,
     ) -> Result<(), GenFault>
-        ensures { IfOk result (λ _. FollowsRepeatedAlt self.old self.new around.entry line
+        ensures { IfOk result (λ _. FollowsRepeatedAlt self.old self.new around.now line
             (replicator_of replicator.now) (branch_of branch.now)) }
     {
         let counted = is_before(line, around.around.uncounted);
@@ -189,13 +189,13 @@ impl<'a> ProcessWriter<'a> {
     #[cycle(processes)]
     fn write_branch_turns(
         &mut self,
-        around: Surroundings<'_, 'a>,
+        around: &Surroundings<'_, 'a>,
         labels: Labels,
         guards: &Guards,
         turns: Replication<'a>,
         branch: &Branch<'a>,
     ) -> Result<(), GenFault>
-        ensures { IfOk result (λ _. WritesSome self.old self.new around.entry
+        ensures { IfOk result (λ _. WritesSome self.old self.new around.now
             (exits_in labels guards.now.sources.items) turns.entry (branch_of branch.now) turns.entry.count) }
     {
         for turn in 0..turns.count {
@@ -210,11 +210,11 @@ impl<'a> ProcessWriter<'a> {
     #[cycle(processes)]
     fn write_branch(
         &mut self,
-        around: Surroundings<'_, 'a>,
+        around: &Surroundings<'_, 'a>,
         exits: Exits,
         branch: &Branch<'a>,
     ) -> Result<(), GenFault>
-        ensures { IfOk result (λ _. WritesBranch self.old self.new around.entry exits (branch_of branch.now)) }
+        ensures { IfOk result (λ _. WritesBranch self.old self.new around.now exits (branch_of branch.now)) }
     {
         self.write_row(around.limits, exits.here)?;
         let stops = self.write_guard(around.limits, exits.next, &branch.guard)?;

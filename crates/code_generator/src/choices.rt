@@ -187,14 +187,14 @@ impl<'a> ProcessWriter<'a> {
     #[cycle(processes)]
     pub(crate) fn write_if(
         &mut self,
-        around: Surroundings<'_, 'a>,
+        around: &Surroundings<'_, 'a>,
         choices: &[Choice<'a>],
     ) -> Result<(), GenFault>
-        ensures ok { IfOk result (λ _. WritesIf self.old self.new around.entry (all_choices choices.now)) }
-        ensures limit { result ≡ Err GenFault.Limit → Exceeds around.entry.limits self.old.listing
-            (if_at (surroundings_of around.entry) (all_choices choices.now) (site_of self.old)) }
+        ensures ok { IfOk result (λ _. WritesIf self.old self.new around.now (all_choices choices.now)) }
+        ensures limit { result ≡ Err GenFault.Limit → Exceeds around.now.limits self.old.listing
+            (if_at (surroundings_of around.now) (all_choices choices.now) (site_of self.old)) }
         ensures invalid { result ≡ Err GenFault.Invalid → AreSequential (Mark mark.If) (all_choices choices.now)
-            → around.entry.limits.is_sequential ≡ false }
+            → around.now.limits.is_sequential ≡ false }
     {
         let end = self.label;
         self.label = label_after(end)?;
@@ -209,15 +209,15 @@ impl<'a> ProcessWriter<'a> {
     #[cycle(processes)]
     fn write_choices(
         &mut self,
-        around: Surroundings<'_, 'a>,
+        around: &Surroundings<'_, 'a>,
         end: usize,
         choices: &[Choice<'a>],
     ) -> Result<(), GenFault>
-        ensures ok { IfOk result (λ _. WritesChoices self.old self.new around.entry end (all_choices choices.now)) }
-        ensures limit { result ≡ Err GenFault.Limit → Exceeds around.entry.limits self.old.listing
-            (choices_at (surroundings_of around.entry) end (all_choices choices.now) (site_of self.old)) }
+        ensures ok { IfOk result (λ _. WritesChoices self.old self.new around.now end (all_choices choices.now)) }
+        ensures limit { result ≡ Err GenFault.Limit → Exceeds around.now.limits self.old.listing
+            (choices_at (surroundings_of around.now) end (all_choices choices.now) (site_of self.old)) }
         ensures invalid { result ≡ Err GenFault.Invalid → AreSequential (Mark mark.If) (all_choices choices.now)
-            → around.entry.limits.is_sequential ≡ false }
+            → around.now.limits.is_sequential ≡ false }
     {
         let ended = EndedChoices::of(choices);
         for choice in ended.tested {
@@ -231,16 +231,16 @@ impl<'a> ProcessWriter<'a> {
     #[cycle(processes)]
     fn write_ending(
         &mut self,
-        around: Surroundings<'_, 'a>,
+        around: &Surroundings<'_, 'a>,
         end: usize,
         ending: IfEnding<'_, 'a>,
     ) -> Result<(), GenFault>
-        ensures ok { IfOk result (λ _. WritesEnding self.old self.new around.entry end ending.entry) }
-        ensures limit { result ≡ Err GenFault.Limit → Exceeds around.entry.limits self.old.listing
-            (ending_at (surroundings_of around.entry) end ending.entry (site_of self.old)) }
+        ensures ok { IfOk result (λ _. WritesEnding self.old self.new around.now end ending.entry) }
+        ensures limit { result ≡ Err GenFault.Limit → Exceeds around.now.limits self.old.listing
+            (ending_at (surroundings_of around.now) end ending.entry (site_of self.old)) }
         ensures invalid { result ≡ Err GenFault.Invalid
             → AreSequential (Mark mark.If) (all_choices (choices_in ending.entry))
-            → around.entry.limits.is_sequential ≡ false }
+            → around.now.limits.is_sequential ≡ false }
     {
         match ending {
             IfEnding::Stops => Ok(self.listing.operate(operations::STOP_PROCESS)?),
@@ -256,16 +256,16 @@ impl<'a> ProcessWriter<'a> {
     #[cycle(processes)]
     fn write_tested(
         &mut self,
-        around: Surroundings<'_, 'a>,
+        around: &Surroundings<'_, 'a>,
         end: usize,
         choice: &Choice<'a>,
     ) -> Result<(), GenFault>
-        ensures ok { IfOk result (λ _. WritesAs self.old self.new around.entry (tested_code end)
+        ensures ok { IfOk result (λ _. WritesAs self.old self.new around.now (tested_code end)
             (choice_of choice.now)) }
-        ensures limit { result ≡ Err GenFault.Limit → Exceeds around.entry.limits self.old.listing
-            (choice_as (tested_code end) (surroundings_of around.entry) (choice_of choice.now) (site_of self.old)) }
+        ensures limit { result ≡ Err GenFault.Limit → Exceeds around.now.limits self.old.listing
+            (choice_as (tested_code end) (surroundings_of around.now) (choice_of choice.now) (site_of self.old)) }
         ensures invalid { result ≡ Err GenFault.Invalid → IsSequentialComponent (Mark mark.If) (choice_of choice.now)
-            → around.entry.limits.is_sequential ≡ false }
+            → around.now.limits.is_sequential ≡ false }
     {
         let other = self.label;
         self.label = label_after(other)?;
@@ -280,16 +280,16 @@ impl<'a> ProcessWriter<'a> {
     #[cycle(processes)]
     fn write_open(
         &mut self,
-        around: Surroundings<'_, 'a>,
+        around: &Surroundings<'_, 'a>,
         end: usize,
         choice: &Choice<'a>,
     ) -> Result<(), GenFault>
-        ensures ok { IfOk result (λ _. WritesAs self.old self.new around.entry (open_code end)
+        ensures ok { IfOk result (λ _. WritesAs self.old self.new around.now (open_code end)
             (choice_of choice.now)) }
-        ensures limit { result ≡ Err GenFault.Limit → Exceeds around.entry.limits self.old.listing
-            (choice_as (open_code end) (surroundings_of around.entry) (choice_of choice.now) (site_of self.old)) }
+        ensures limit { result ≡ Err GenFault.Limit → Exceeds around.now.limits self.old.listing
+            (choice_as (open_code end) (surroundings_of around.now) (choice_of choice.now) (site_of self.old)) }
         ensures invalid { result ≡ Err GenFault.Invalid → IsSequentialComponent (Mark mark.If) (choice_of choice.now)
-            → around.entry.limits.is_sequential ≡ false }
+            → around.now.limits.is_sequential ≡ false }
     {
         self.write_test(around.limits, &choice.condition, end)?;
         self.write_taken(around, choice)?;
@@ -300,14 +300,14 @@ impl<'a> ProcessWriter<'a> {
     #[cycle(processes)]
     fn write_taken(
         &mut self,
-        around: Surroundings<'_, 'a>,
+        around: &Surroundings<'_, 'a>,
         choice: &Choice<'a>,
     ) -> Result<(), GenFault>
-        ensures ok { IfOk result (λ _. WritesAs self.old self.new around.entry taken_code (choice_of choice.now)) }
-        ensures limit { result ≡ Err GenFault.Limit → Exceeds around.entry.limits self.old.listing
-            (choice_as taken_code (surroundings_of around.entry) (choice_of choice.now) (site_of self.old)) }
+        ensures ok { IfOk result (λ _. WritesAs self.old self.new around.now taken_code (choice_of choice.now)) }
+        ensures limit { result ≡ Err GenFault.Limit → Exceeds around.now.limits self.old.listing
+            (choice_as taken_code (surroundings_of around.now) (choice_of choice.now) (site_of self.old)) }
         ensures invalid { result ≡ Err GenFault.Invalid → IsSequentialComponent (Mark mark.If) (choice_of choice.now)
-            → around.entry.limits.is_sequential ≡ false }
+            → around.now.limits.is_sequential ≡ false }
     {
         self.scope.exclude(&choice.condition);
         narrow_by(&mut self.scope, &choice.condition, true);
@@ -321,18 +321,18 @@ impl<'a> ProcessWriter<'a> {
     #[inline(never)]
     pub(crate) fn write_repeated_if(
         &mut self,
-        around: Surroundings<'_, 'a>,
+        around: &Surroundings<'_, 'a>,
         line: u32,
         replicator: &Replicator<'a>,
         choice: &Choice<'a>,
     ) -> Result<(), GenFault>
-        ensures ok { IfOk result (λ _. WritesConstruct self.old self.new around.entry line
+        ensures ok { IfOk result (λ _. WritesConstruct self.old self.new around.now line
             (under_if (replicator_of replicator.now) (choice_of choice.now))) }
-        ensures limit { result ≡ Err GenFault.Limit → Exceeds around.entry.limits self.old.listing
-            (construct_code (surroundings_of around.entry) line
+        ensures limit { result ≡ Err GenFault.Limit → Exceeds around.now.limits self.old.listing
+            (construct_code (surroundings_of around.now) line
             (under_if (replicator_of replicator.now) (choice_of choice.now)) (site_of self.old)) }
         ensures invalid { result ≡ Err GenFault.Invalid → IsSequentialComponent (Mark mark.If) (choice_of choice.now)
-            → around.entry.limits.is_sequential ≡ false }
+            → around.now.limits.is_sequential ≡ false }
     {
         let end = self.label;
         self.label = label_after(end)?;
@@ -360,20 +360,20 @@ impl<'a> ProcessWriter<'a> {
     #[cycle(processes)]
     fn write_turns(
         &mut self,
-        around: Surroundings<'_, 'a>,
+        around: &Surroundings<'_, 'a>,
         end: usize,
         name: &'a [u8],
         repeats: Repeats,
         count: u32,
         choice: &Choice<'a>,
     ) -> Result<(), GenFault>
-        ensures ok { IfOk result (λ _. WritesTurns self.old self.new around.entry end name.now (seen_repeats repeats)
+        ensures ok { IfOk result (λ _. WritesTurns self.old self.new around.now end name.now (seen_repeats repeats)
             count (choice_of choice.now)) }
-        ensures limit { result ≡ Err GenFault.Limit → Exceeds around.entry.limits self.old.listing
-            (turns_at (surroundings_of around.entry) end name.now (choice_of choice.now) (seen_repeats repeats) count
+        ensures limit { result ≡ Err GenFault.Limit → Exceeds around.now.limits self.old.listing
+            (turns_at (surroundings_of around.now) end name.now (choice_of choice.now) (seen_repeats repeats) count
             (site_of self.old)) }
         ensures invalid { result ≡ Err GenFault.Invalid → IsSequentialComponent (Mark mark.If) (choice_of choice.now)
-            → around.entry.limits.is_sequential ≡ false }
+            → around.now.limits.is_sequential ≡ false }
     {
         let tested = turns_tested(count, &choice.condition);
         for turn in 0..tested {

@@ -249,10 +249,10 @@ impl<'a> ProcessWriter<'a> {
     #[inline(never)]
     pub(crate) fn write_par(
         &mut self,
-        around: Surroundings<'_, 'a>,
+        around: &Surroundings<'_, 'a>,
         processes: &[Process<'a>],
     ) -> Result<(), GenFault>
-        ensures { IfOk result (λ _. WritesPar self.old self.new around.entry (all_processes processes.now)) }
+        ensures { IfOk result (λ _. WritesPar self.old self.new around.now (all_processes processes.now)) }
     {
         let mut fork = self.begin_fork()?;
         self.scope.begin_par()?;
@@ -268,11 +268,11 @@ impl<'a> ProcessWriter<'a> {
     #[cycle(processes)]
     fn write_component(
         &mut self,
-        around: Surroundings<'_, 'a>,
+        around: &Surroundings<'_, 'a>,
         fork: &mut Fork,
         process: &Process<'a>,
     ) -> Result<(), GenFault>
-        ensures { IfOk result (λ _. WritesComponent self.old self.new around.entry (plain_component process.now)) }
+        ensures { IfOk result (λ _. WritesComponent self.old self.new around.now (plain_component process.now)) }
     {
         let signatures = around.around.signatures;
         let changed = variables_changed(self.alloc, signatures, &mut self.scope, process)?;
@@ -289,12 +289,12 @@ impl<'a> ProcessWriter<'a> {
     #[inline(never)]
     pub(crate) fn write_repeated_par(
         &mut self,
-        around: Surroundings<'_, 'a>,
+        around: &Surroundings<'_, 'a>,
         line: u32,
         replicator: &Replicator<'a>,
         process: &Process<'a>,
     ) -> Result<(), GenFault>
-        ensures { IfOk result (λ _. WritesRepeatedPar self.old self.new around.entry line
+        ensures { IfOk result (λ _. WritesRepeatedPar self.old self.new around.now line
             (replicator_of replicator.now) (process_of process.now)) }
     {
         let counted = is_before(line, around.around.uncounted);
@@ -318,13 +318,13 @@ impl<'a> ProcessWriter<'a> {
     #[cycle(processes)]
     fn write_components(
         &mut self,
-        around: Surroundings<'_, 'a>,
+        around: &Surroundings<'_, 'a>,
         fork: &mut Fork,
         name: &'a [u8],
         repeats: Repeats,
         process: &Process<'a>,
     ) -> Result<(), GenFault>
-        ensures { IfOk result (λ _. WritesTurns self.old self.new around.entry name.now (seen_repeats repeats)
+        ensures { IfOk result (λ _. WritesTurns self.old self.new around.now name.now (seen_repeats repeats)
             repeats.turns.count (plain_component process.now)) }
     {
         for turn in 0..repeats.turns.count {

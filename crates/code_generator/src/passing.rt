@@ -29,13 +29,13 @@ use word_arithmetic::Range;
 
 /// What an instance passes to the parameters of a procedure.
 #[derive(Clone, Copy)]
-pub(crate) struct Passed<'s, 'a> {
+pub(crate) struct Passed<'s, 'p, 'a> {
     pub(crate) signatures: &'s [Signature],
     pub(crate) procedure: Option<Meaning>,
-    pub(crate) actuals: &'s [Expr<'a>],
+    pub(crate) actuals: &'p [Expr<'a>],
 }
 
-impl Passed<'_, '_> {
+impl Passed<'_, '_, '_> {
     /// What the parameter at a place is in the procedure.
     fn meaning(self, place: usize) -> Option<Meaning>
         ensures { option_map meaning_of result ≡ meaning_at place (parameters_of self.entry) }

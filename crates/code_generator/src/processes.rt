@@ -272,21 +272,21 @@ impl<'a> ProcessWriter<'a> {
     #[cycle(processes)]
     pub fn write(
         &mut self,
-        around: Surroundings<'_, 'a>,
+        around: &Surroundings<'_, 'a>,
         process: &Process<'a>,
     ) -> Result<(), GenFault>
-        ensures ok { IfOk result (λ _. WritesProcess self.old self.new around.entry (process_of process.now)) }
-        ensures limit { result ≡ Err GenFault.Limit → Exceeds around.entry.limits self.old.listing
-            (process_code (surroundings_of around.entry) (process_of process.now) (site_of self.old)) }
+        ensures ok { IfOk result (λ _. WritesProcess self.old self.new around.now (process_of process.now)) }
+        ensures limit { result ≡ Err GenFault.Limit → Exceeds around.now.limits self.old.listing
+            (process_code (surroundings_of around.now) (process_of process.now) (site_of self.old)) }
         ensures invalid { result ≡ Err GenFault.Invalid → IsSequential (process_of process.now)
-            → around.entry.limits.is_sequential ≡ false }
+            → around.now.limits.is_sequential ≡ false }
     {
         let before = self.begin_line(process.line)?;
         let inside = around.inside()?;
         let count = self.frame.homes.len();
         let top = self.frame.top;
         self.declare_all(around.limits, &process.declarations)?;
-        self.write_construct(inside, process.line, &process.construct)?;
+        self.write_construct(&inside, process.line, &process.construct)?;
         self.frame.leave(count, top);
         self.begin_line(before)?;
         Ok(())
@@ -296,16 +296,16 @@ impl<'a> ProcessWriter<'a> {
     #[cycle(processes)]
     fn write_construct(
         &mut self,
-        around: Surroundings<'_, 'a>,
+        around: &Surroundings<'_, 'a>,
         line: u32,
         construct: &Construct<'a>,
     ) -> Result<(), GenFault>
-        ensures ok { IfOk result (λ _. WritesConstruct self.old self.new around.entry line
+        ensures ok { IfOk result (λ _. WritesConstruct self.old self.new around.now line
             (construct_of construct.now)) }
-        ensures limit { result ≡ Err GenFault.Limit → Exceeds around.entry.limits self.old.listing
-            (construct_code (surroundings_of around.entry) line (construct_of construct.now) (site_of self.old)) }
+        ensures limit { result ≡ Err GenFault.Limit → Exceeds around.now.limits self.old.listing
+            (construct_code (surroundings_of around.now) line (construct_of construct.now) (site_of self.old)) }
         ensures invalid { result ≡ Err GenFault.Invalid → IsSequentialConstruct (construct_of construct.now)
-            → around.entry.limits.is_sequential ≡ false }
+            → around.now.limits.is_sequential ≡ false }
     {
         match construct {
             Construct::Action(action) => self.act(around, line, action),
@@ -323,16 +323,16 @@ impl<'a> ProcessWriter<'a> {
     #[cycle(processes)]
     fn act(
         &mut self,
-        around: Surroundings<'_, 'a>,
+        around: &Surroundings<'_, 'a>,
         line: u32,
         action: &Action<'a>,
     ) -> Result<(), GenFault>
-        ensures ok { IfOk result (λ _. WritesConstruct self.old self.new around.entry line
+        ensures ok { IfOk result (λ _. WritesConstruct self.old self.new around.now line
             (Act (action_of action.now))) }
-        ensures limit { result ≡ Err GenFault.Limit → Exceeds around.entry.limits self.old.listing
-            (line_code (surroundings_of around.entry) (action_of action.now) (site_of self.old)) }
+        ensures limit { result ≡ Err GenFault.Limit → Exceeds around.now.limits self.old.listing
+            (line_code (surroundings_of around.now) (action_of action.now) (site_of self.old)) }
         ensures invalid { result ≡ Err GenFault.Invalid → IsSequentialAction (action_of action.now)
-            → around.entry.limits.is_sequential ≡ false }
+            → around.now.limits.is_sequential ≡ false }
     {
         let reading = reading_of_action(action);
         self.walk_over(around.limits, size_of_action(action), reading)?;
@@ -345,14 +345,14 @@ impl<'a> ProcessWriter<'a> {
     #[cycle(processes)]
     fn write_line(
         &mut self,
-        around: Surroundings<'_, 'a>,
+        around: &Surroundings<'_, 'a>,
         action: &Action<'a>,
     ) -> Result<(), GenFault>
-        ensures ok { IfOk result (λ _. WritesLine self.old self.new around.entry (action_of action.now)) }
-        ensures limit { result ≡ Err GenFault.Limit → Exceeds around.entry.limits self.old.listing
-            (line_code (surroundings_of around.entry) (action_of action.now) (site_of self.old)) }
+        ensures ok { IfOk result (λ _. WritesLine self.old self.new around.now (action_of action.now)) }
+        ensures limit { result ≡ Err GenFault.Limit → Exceeds around.now.limits self.old.listing
+            (line_code (surroundings_of around.now) (action_of action.now) (site_of self.old)) }
         ensures invalid { result ≡ Err GenFault.Invalid → IsSequentialAction (action_of action.now)
-            → around.entry.limits.is_sequential ≡ false }
+            → around.now.limits.is_sequential ≡ false }
     {
         match action {
             Action::Instance { name, actuals } => self.write_instance(around, name, actuals),
@@ -364,13 +364,13 @@ impl<'a> ProcessWriter<'a> {
     #[cycle(processes)]
     fn write_instance(
         &mut self,
-        around: Surroundings<'_, 'a>,
+        around: &Surroundings<'_, 'a>,
         name: &[u8],
         actuals: &[Expr<'a>],
     ) -> Result<(), GenFault>
-        ensures ok { IfOk result (λ _. WritesLine self.old self.new around.entry
+        ensures ok { IfOk result (λ _. WritesLine self.old self.new around.now
             (Instance name.now (map expression_of actuals.now))) }
-        ensures limit { result ≡ Err GenFault.Limit → around.entry.limits.is_sequential ≡ false }
+        ensures limit { result ≡ Err GenFault.Limit → around.now.limits.is_sequential ≡ false }
     {
         if around.limits.is_sequential {
             return Err(GenFault::Invalid);
@@ -383,7 +383,8 @@ impl<'a> ProcessWriter<'a> {
             actuals,
         };
         let mut body = self.begin_instance(around.limits, call.callee, passed)?;
-        body.write(call.inside, &call.callee.proc.body)?;
+        let process = &call.callee.proc.body;
+        body.write(&call.inside, process)?;
         self.end_instance(body, passed)?;
         Ok(())
     }
@@ -392,14 +393,14 @@ impl<'a> ProcessWriter<'a> {
     #[cycle(processes)]
     fn write_seq(
         &mut self,
-        around: Surroundings<'_, 'a>,
+        around: &Surroundings<'_, 'a>,
         processes: &[Process<'a>],
     ) -> Result<(), GenFault>
-        ensures ok { IfOk result (λ _. WritesSeq self.old self.new around.entry (all_processes processes.now)) }
-        ensures limit { result ≡ Err GenFault.Limit → Exceeds around.entry.limits self.old.listing
-            (components_code (surroundings_of around.entry) (all_processes processes.now) (site_of self.old)) }
+        ensures ok { IfOk result (λ _. WritesSeq self.old self.new around.now (all_processes processes.now)) }
+        ensures limit { result ≡ Err GenFault.Limit → Exceeds around.now.limits self.old.listing
+            (components_code (surroundings_of around.now) (all_processes processes.now) (site_of self.old)) }
         ensures invalid { result ≡ Err GenFault.Invalid → AreSequential (Mark mark.Seq) (all_processes processes.now)
-            → around.entry.limits.is_sequential ≡ false }
+            → around.now.limits.is_sequential ≡ false }
     {
         for process in processes {
             self.write_one(around, process)?;
@@ -411,14 +412,14 @@ impl<'a> ProcessWriter<'a> {
     #[cycle(processes)]
     fn write_one(
         &mut self,
-        around: Surroundings<'_, 'a>,
+        around: &Surroundings<'_, 'a>,
         process: &Process<'a>,
     ) -> Result<(), GenFault>
-        ensures ok { IfOk result (λ _. WritesOne self.old self.new around.entry (plain_component process.now)) }
-        ensures limit { result ≡ Err GenFault.Limit → Exceeds around.entry.limits self.old.listing
-            (component_code (surroundings_of around.entry) (plain_component process.now) (site_of self.old)) }
+        ensures ok { IfOk result (λ _. WritesOne self.old self.new around.now (plain_component process.now)) }
+        ensures limit { result ≡ Err GenFault.Limit → Exceeds around.now.limits self.old.listing
+            (component_code (surroundings_of around.now) (plain_component process.now) (site_of self.old)) }
         ensures invalid { result ≡ Err GenFault.Invalid → IsSequential (process_of process.now)
-            → around.entry.limits.is_sequential ≡ false }
+            → around.now.limits.is_sequential ≡ false }
     {
         let count = self.scope.len();
         self.write(around, process)?;
@@ -430,18 +431,18 @@ impl<'a> ProcessWriter<'a> {
     #[cycle(processes)]
     fn write_replicated(
         &mut self,
-        around: Surroundings<'_, 'a>,
+        around: &Surroundings<'_, 'a>,
         line: u32,
         replicator: &Replicator<'a>,
         body: &Body<'a>,
     ) -> Result<(), GenFault>
-        ensures ok { IfOk result (λ _. WritesConstruct self.old self.new around.entry line
+        ensures ok { IfOk result (λ _. WritesConstruct self.old self.new around.now line
             (Replicated (replicator_of replicator.now) (body_of body.now))) }
-        ensures limit { result ≡ Err GenFault.Limit → Exceeds around.entry.limits self.old.listing
-            (body_code (surroundings_of around.entry) line (replicator_of replicator.now) (body_of body.now)
+        ensures limit { result ≡ Err GenFault.Limit → Exceeds around.now.limits self.old.listing
+            (body_code (surroundings_of around.now) line (replicator_of replicator.now) (body_of body.now)
             (site_of self.old)) }
         ensures invalid { result ≡ Err GenFault.Invalid → IsSequentialBody (body_of body.now)
-            → around.entry.limits.is_sequential ≡ false }
+            → around.now.limits.is_sequential ≡ false }
     {
         match body {
             Body::Seq(process) => {
@@ -466,19 +467,19 @@ impl<'a> ProcessWriter<'a> {
     #[cycle(processes)]
     fn write_loop(
         &mut self,
-        around: Surroundings<'_, 'a>,
+        around: &Surroundings<'_, 'a>,
         line: u32,
         replicator: &Replicator<'a>,
         changed: &[usize],
         process: &Process<'a>,
     ) -> Result<(), GenFault>
-        ensures ok { IfOk result (λ _. WritesLoop self.old self.new around.entry line (replicator_of replicator.now)
+        ensures ok { IfOk result (λ _. WritesLoop self.old self.new around.now line (replicator_of replicator.now)
             changed.now (process_of process.now)) }
-        ensures limit { result ≡ Err GenFault.Limit → Exceeds around.entry.limits self.old.listing
-            (looped_code (surroundings_of around.entry) line (replicator_of replicator.now) changed.now
+        ensures limit { result ≡ Err GenFault.Limit → Exceeds around.now.limits self.old.listing
+            (looped_code (surroundings_of around.now) line (replicator_of replicator.now) changed.now
             (process_of process.now) (site_of self.old)) }
         ensures invalid { result ≡ Err GenFault.Invalid → IsSequential (process_of process.now)
-            → around.entry.limits.is_sequential ≡ false }
+            → around.now.limits.is_sequential ≡ false }
     {
         let count = value_or_zero(&self.scope, &replicator.count);
         if count == 0 {
@@ -500,18 +501,18 @@ impl<'a> ProcessWriter<'a> {
     #[cycle(processes)]
     fn write_turning(
         &mut self,
-        around: Surroundings<'_, 'a>,
+        around: &Surroundings<'_, 'a>,
         turning: Turning<'a>,
         changed: &[usize],
         process: &Process<'a>,
     ) -> Result<(), GenFault>
-        ensures ok { IfOk result (λ _. WritesTurning self.old self.new around.entry turning.entry changed.now
+        ensures ok { IfOk result (λ _. WritesTurning self.old self.new around.now turning.entry changed.now
             (process_of process.now)) }
-        ensures limit { result ≡ Err GenFault.Limit → Exceeds around.entry.limits self.old.listing
-            (turning_code (surroundings_of around.entry) turning.entry changed.now (process_of process.now)
+        ensures limit { result ≡ Err GenFault.Limit → Exceeds around.now.limits self.old.listing
+            (turning_code (surroundings_of around.now) turning.entry changed.now (process_of process.now)
             (site_of self.old)) }
         ensures invalid { result ≡ Err GenFault.Invalid → IsSequential (process_of process.now)
-            → around.entry.limits.is_sequential ≡ false }
+            → around.now.limits.is_sequential ≡ false }
     {
         let head = self.label;
         let names = self.frame.homes.len();

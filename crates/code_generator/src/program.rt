@@ -137,12 +137,12 @@ impl<'a> ProcessWriter<'a> {
     }
 
     /// The code of `main`, after which the process stops.
-    fn write_main(&mut self, around: Surroundings<'_, 'a>, main: &Proc<'a>) -> Result<(), GenFault>
-        ensures ok { IfOk result (λ _. WritesMain self.old self.new around.entry (procedure_of main.now)) }
-        ensures limit { result ≡ Err GenFault.Limit → Exceeds around.entry.limits self.old.listing
-            (main_code (surroundings_of around.entry) (procedure_of main.now) (site_of self.old)) }
+    fn write_main(&mut self, around: &Surroundings<'_, 'a>, main: &Proc<'a>) -> Result<(), GenFault>
+        ensures ok { IfOk result (λ _. WritesMain self.old self.new around.now (procedure_of main.now)) }
+        ensures limit { result ≡ Err GenFault.Limit → Exceeds around.now.limits self.old.listing
+            (main_code (surroundings_of around.now) (procedure_of main.now) (site_of self.old)) }
         ensures invalid { result ≡ Err GenFault.Invalid → IsSequential (procedure_of main.now).body
-            → around.entry.limits.is_sequential ≡ false }
+            → around.now.limits.is_sequential ≡ false }
     {
         add_links(&mut self.frame, &main.formals)?;
         add_formals(self.alloc, &mut self.scope, &main.formals)?;
@@ -204,7 +204,7 @@ pub fn code_of(alloc: Global, program: &CheckedProgram) -> Result<Code, GenFault
         deeper: GREATEST_DEPTH,
         limits,
     };
-    writer.write_main(around, main)?;
+    writer.write_main(&around, main)?;
     Ok(Code {
         listing: writer.listing,
         labels: writer.label,

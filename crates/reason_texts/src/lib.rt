@@ -6,6 +6,8 @@ mod hints;
 mod layout;
 mod parse;
 
-pub use block::{Span, closing_quote, meant, push_block, push_hint, push_number, push_place, shown_byte};
+pub use block::{
+    Span, closing_quote, meant, push_block, push_hint, push_number, push_place, shown_byte,
+};
 pub use layout::layout_text;
 pub use parse::{line_of, line_span, parse_text};

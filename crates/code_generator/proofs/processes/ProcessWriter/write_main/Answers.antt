@@ -17,7 +17,7 @@ pub returns-clause-ok : goal.returns-clause-ok
 returns-clause-ok c =
     let s = c.args.self.now in
     let w = c.write.new.self in
-    let body = process_code (surroundings_of c.args.around) (procedure_of c.args.main.now).body in
+    let body = process_code (surroundings_of c.args.around.now) (procedure_of c.args.main.now).body in
     let place = main_begins c.args.main.now s c.add_links.new.frame c.add_formals.new.scope c.deref.result.now
     c.deref-2.result.now c.in_ok-add_links.ensures c.deref.ensures.value c.in_ok-add_formals.ensures.ok
     c.deref-2.ensures.value c.in_ok-add_formals.ensures.extends.blocks in
@@ -30,13 +30,13 @@ pub returns-in_err-write-clause-limit : goal.returns-in_err-write-clause-limit
 returns-in_err-write-clause-limit c = λ e.
     let s = c.args.self.now in
     let main = procedure_of c.args.main.now in
-    let here = surroundings_of c.args.around in
+    let here = surroundings_of c.args.around.now in
     let fault = handed_on c.from_residual-in_err-write.result c.in_err-write.field-0.0 Limit
     c.from_residual-in_err-write.ensures.1 e in
     let place = main_begins c.args.main.now s c.add_links.new.frame c.add_formals.new.scope c.deref.result.now
     c.deref-2.result.now c.in_ok-add_links.ensures c.deref.ensures.value c.in_ok-add_formals.ensures.ok
     c.deref-2.ensures.value c.in_ok-add_formals.ensures.extends.blocks in
-    exceeds_closed c.args.around.limits (process_code here main.body (in_main main (site_of s))) s.listing
+    exceeds_closed c.args.around.now.limits (process_code here main.body (in_main main (site_of s))) s.listing
     (operates STOP_PROCESS ∷ [])
-    (subst (λ (z : Site). Exceeds c.args.around.limits s.listing (process_code here main.body z)) place
+    (subst (λ (z : Site). Exceeds c.args.around.now.limits s.listing (process_code here main.body z)) place
     (c.in_err-write.ensures.limit (ap Err fault)))
