@@ -2,10 +2,9 @@
 
 use crate::layers::has_lines;
 use conformance::{Answer, Outcome, Statement, judged};
-use known_lines::known_lines;
-use limit_reasons::{limit_excess, limit_text};
 use occam_layout::{Line, lines};
 use occam_parser::{Program, parse};
+use program_walk::{known_lines, limit_excess, limit_text};
 use reason_texts::{layout_text, line_of, parse_text};
 use std::alloc::{AllocError, Global};
 use usage_checks::{UsageFault, check};

@@ -1,8 +1,15 @@
-//! A walk over a program, whether it breaks rules or not, with what is known at each place.
+//! What a walk over a program shows: on each line what is known there, and the first limit that the program is above.
 #![tactic(auto)]
 
+mod excess;
+mod finding;
+mod knowing;
+mod listing;
 mod parts;
+mod texts;
 mod walk;
 
-pub use parts::{Part, Visitor};
-pub use walk::walk_program;
+pub use excess::{Excess, Limit};
+pub use finding::limit_excess;
+pub use listing::known_lines;
+pub use texts::limit_text;

@@ -5,7 +5,7 @@ use scalar_ranges::Scope;
 
 /// A part of a program, which stands on one line or begins there.
 #[derive(Clone, Copy)]
-pub enum Part<'p, 'a> {
+pub(crate) enum Part<'p, 'a> {
     /// A constant of the program, or the head of a procedure.
     Item(&'p Item<'a>),
     /// Names that are declared before a process.
@@ -23,7 +23,7 @@ pub enum Part<'p, 'a> {
 }
 
 /// Whoever looks at the parts of a program.
-pub trait Visitor {
+pub(crate) trait Visitor {
     /// A part on this line, with what is known before it.
     fn visit(&mut self, scope: &Scope<'_>, line: u32, part: Part<'_, '_>);
 }

@@ -268,7 +268,7 @@ impl<'a> Walk<'a> {
 /// scope what it denotes, and of a scalar its range, as the rules of usage know it. A part under a replicator is shown
 /// once, where its index may be each of its values. Whether the program breaks rules makes no difference. What is shown
 /// is claimed by no contract.
-pub fn walk_program<V: Visitor>(
+pub(crate) fn walk_program<V: Visitor>(
     alloc: Global,
     items: &[Item],
     visitor: &mut V,

@@ -11,7 +11,7 @@ use Rattle.usage_texts.specs.UsageTexts.{usage_text}
 use Rattle.occam_parser.specs.declared.fault.ParseFault.{ParseFault}
 use Rattle.reason_texts.specs.LayoutTexts.{layout_text}
 use Rattle.reason_texts.specs.ParseTexts.{parse_text}
-use Rattle.limit_reasons.specs.LimitTexts.{IsLimitText}
+use Rattle.program_walk.specs.LimitTexts.{IsLimitText}
 use Rattle.module_builder.specs.declared.fault.GenFault.{GenFault}
 use Rattle.module_builder.specs.declared.fault.GenFault.TheVariants as generation
 use Rattle.compiler.specs.declared.source.CompileFault.{CompileFault}

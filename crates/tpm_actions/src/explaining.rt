@@ -13,11 +13,11 @@ use command_line::Question;
 use compiler::{CompileFault, compile, ends_in};
 use explanations::{Explained, explanation};
 use file_faults::push_file_fault;
-use known_lines::known_lines;
 use module_builder::GenFault;
 use module_format::{FormatFault, MEMORY};
 use occam_layout::lines;
 use occam_parser::parse;
+use program_walk::known_lines;
 use std::alloc::{AllocError, Global};
 use verifier::{Refusal, Stop, verdict_is_right};
 

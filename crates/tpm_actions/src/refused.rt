@@ -1,16 +1,16 @@
 //! A source that becomes no module, and what is written of it.
 
 ghost use Rattle.std.specs.Prelude.{◌≡◌, IfOk, IfSome, string_bytes};
-ghost use Rattle.limit_reasons.specs.LimitTexts.{IsLimitText};
+ghost use Rattle.program_walk.specs.LimitTexts.{IsLimitText};
 ghost use Rattle.compiler.specs.Compiled.{IsRefusedFor};
 ghost use Rattle.tpm_actions.specs.Compiling.{IsGenerationReason, IsLimitReason, IsParseReason, IsReason, IsRefusedAs, IsUsageReason};
 ghost use Rattle.tpm_actions.specs.Compiling.{mistake_text, IsSomeReasonOf, IsUsageText};
 
 use compiler::CompileFault;
-use limit_reasons::{limit_excess, limit_text};
 use module_builder::GenFault;
 use occam_layout::{Line, lines};
 use occam_parser::{ParseFault, Program, parse};
+use program_walk::{limit_excess, limit_text};
 use reason_texts::{layout_text, line_of, parse_text};
 use std::alloc::{AllocError, Global};
 use std::fmt;

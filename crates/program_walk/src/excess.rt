@@ -1,7 +1,7 @@
 //! What is above a limit.
 
 ghost use Rattle.std.specs.Prelude.{◌≡◌, ◌<◌};
-ghost use Rattle.limit_reasons.specs.Excesses.{most_of};
+ghost use Rattle.program_walk.specs.Excesses.{most_of};
 
 /// A limit of what is made of a program: one that its source alone shows to be exceeded.
 #[derive(Clone, Copy)]

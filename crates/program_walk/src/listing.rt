@@ -1,9 +1,10 @@
 //! The listing of a source.
 
 use crate::knowing::push_all_known;
+use crate::parts::{Part, Visitor};
+use crate::walk::walk_program;
 use occam_layout::Line;
 use occam_parser::Program;
-use program_walk::{Part, Visitor, walk_program};
 use reason_texts::shown_byte;
 use scalar_ranges::Scope;
 use std::alloc::{AllocError, Global};

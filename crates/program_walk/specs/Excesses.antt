@@ -1,7 +1,7 @@
 -- What is above a limit of what is made of a program: our own choice (docs/COMPILER.md, Limits).
 use Rattle.std.specs.Prelude.{ℕ}
-use Rattle.limit_reasons.specs.declared.excess.Limit.{Limit}
-use Rattle.limit_reasons.specs.declared.excess.Limit.TheVariants as limits
+use Rattle.program_walk.specs.declared.excess.Limit.{Limit}
+use Rattle.program_walk.specs.declared.excess.Limit.TheVariants as limits
 
 -- the most that is possible
 abbrev pub most_of : Limit → ℕ

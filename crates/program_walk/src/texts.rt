@@ -1,7 +1,7 @@
 //! What is written of a limit that is exceeded.
 
 ghost use Rattle.std.specs.Prelude.{◌≡◌, ◌++◌, ◌<◌, ◌^◌, OnOk, IfOk, string_bytes};
-ghost use Rattle.limit_reasons.specs.LimitTexts.{excess_text, large_text, limit_text, limit_words};
+ghost use Rattle.program_walk.specs.LimitTexts.{excess_text, large_text, limit_text, limit_words};
 
 use crate::excess::{Excess, Limit};
 use occam_layout::Line;

@@ -1,11 +1,12 @@
 //! The first limit that a program is above.
 
 use crate::excess::{Excess, Limit};
+use crate::parts::{Part, Visitor};
+use crate::walk::walk_program;
 use occam_parser::{
     Action, Body, ConstantValue, Construct, Declaration, Expr, Item, Names, ValueType,
 };
 use program_uses::{size_in, value_as};
-use program_walk::{Part, Visitor, walk_program};
 use scalar_ranges::{ExprType, Meaning, Scope};
 use std::alloc::{AllocError, Global};
 

@@ -7,9 +7,9 @@ use Rattle.source_reasons.specs.Lines.{Sight, line_found}
 use Rattle.reason_texts.specs.declared.block.Span.{Span}
 use Rattle.reason_texts.specs.Blocks.{Text, block_text, place_text}
 use Rattle.reason_texts.specs.ParseTexts.{line_of, line_span}
-use Rattle.limit_reasons.specs.declared.excess.Limit.{Limit}
-use Rattle.limit_reasons.specs.declared.excess.Limit.TheVariants as limits
-use Rattle.limit_reasons.specs.declared.excess.Excess.{Excess}
+use Rattle.program_walk.specs.declared.excess.Limit.{Limit}
+use Rattle.program_walk.specs.declared.excess.Limit.TheVariants as limits
+use Rattle.program_walk.specs.declared.excess.Excess.{Excess}
 
 -- what there is too much of, how much, and how much is possible
 abbrev pub limit_words : Limit → ℕ → Text
