@@ -7,18 +7,13 @@ import sys
 CRATES = os.path.join(os.path.dirname(os.path.dirname(os.path.abspath(__file__))), "crates")
 TPM = os.path.join(CRATES, "tpm", "out", "tpm")
 
-# The calls that are repeated, and the programs that repeat them.
-CALLS = {
-    "machine_conformance": ("read", "write", "verify", "apply", "slice", "pick", "replay", "run"),
-    "language_conformance": ("lines", "parse", "check"),
-}
-PROGRAM_OF = {call: crate for crate, calls in CALLS.items() for call in calls}
+# The program that repeats a call.
+REPEATING = "all_cases"
 
 
 def repeated(call, file, times):
     """The words of a run that repeats a call on a file."""
-    crate = PROGRAM_OF[call]
-    return [os.path.join(CRATES, crate, "out", crate), "time", call, file, str(times)]
+    return [os.path.join(CRATES, REPEATING, "out", REPEATING), "time", call, file, str(times)]
 
 
 def build(crate, words):
@@ -29,7 +24,6 @@ def build(crate, words):
         sys.exit(f"{os.path.basename(sys.argv[0])}: crates/{crate} was not built:\n{built.stdout}{built.stderr}")
 
 
-def build_repeating(calls):
-    """Proves and builds the programs that repeat these calls."""
-    for crate in sorted({PROGRAM_OF[call] for call in calls}):
-        build(crate, [os.devnull])
+def build_repeating():
+    """Proves and builds the program that repeats calls."""
+    build(REPEATING, ["drafts", os.devnull])

@@ -1,5 +1,5 @@
 """A module's file as text, for the scripts: its fields with their offsets, its instructions, and its rows in the words
-that drafts have (`crates/draft_conformance/data/drafts.txt`), with offsets in place of labels."""
+that drafts have (`crates/all_cases/data/drafts/drafts.txt`), with offsets in place of labels."""
 
 import struct
 

@@ -4,7 +4,7 @@ ghost use Rattle.std.specs.Prelude.{◌≡◌, ◌↔◌};
 ghost use Rattle.conformance.specs.declared.repeating.Failure.TheVariants.{Memory};
 
 use crate::cases::try_named;
-use crate::subject::Subject;
+use crate::kind::Kind;
 use std::alloc::Global;
 use std::process::ExitCode;
 use std::rt::{Env, Files};
@@ -91,17 +91,18 @@ fn repeat<C: Calls, R: Files + Print + Eprint + AllocGlobal>(
     print(rt, C::repeat(rt.alloc(), asked.call, &bytes, asked.times))
 }
 
-/// The program: if its arguments are `time CALL FILE TIMES`, it repeats a call on the bytes of a file, and prints a
-/// checksum of the results. The status is then 0, 1 if the call refused its input or memory ran out, and 2 if there is
-/// no such call. With any other arguments it is `try_cases`.
-pub fn try_cases_or_repeat<
-    S: Subject,
-    C: Calls,
-    R: Env + Files + Input + Print + Eprint + AllocGlobal,
->(rt: &R) -> io::Result<ExitCode> {
+/// The program. If its arguments are `time CALL FILE TIMES`, it repeats a call on the bytes of a file, and prints a checksum
+/// of the results. The status is then 0, 1 if the call refused its input or memory ran out, and 2 if there is no such call.
+///
+/// With any other arguments it tries cases, and prints each that differs and then how many came out how. An argument names
+/// a kind of cases, or a file with cases of the kind that is named before it; if the last one names a kind, its cases are
+/// read from standard input. The status is 1 if a case differs or cannot be read, and else 0.
+pub fn try_or_repeat<K: Kind, C: Calls, R: Env + Files + Input + Print + Eprint + AllocGlobal>(
+    rt: &R,
+) -> io::Result<ExitCode> {
     let words: Vec<String> = env::args(rt)?.collect(rt.alloc())?;
     match asked(&words) {
         Some(asked) => repeat::<C, R>(rt, asked),
-        None => try_named::<S, R>(rt, &words),
+        None => try_named::<K, R>(rt, &words),
     }
 }

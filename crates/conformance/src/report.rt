@@ -15,7 +15,7 @@ struct Counts {
 
 /// What came of the cases so far.
 #[derive(Drop)]
-pub(crate) struct Report {
+pub struct Report {
     counts: Counts,
     text: Answer,
 }
