@@ -10,3 +10,6 @@ most_of limits.Guards = 64
 most_of limits.Turns = 8191
 most_of limits.Words = 16378
 most_of limits.Items = 4096
+most_of limits.Rows = 8192
+most_of limits.Pars = 1024
+most_of limits.Steps = 4611686018427387904

@@ -21,6 +21,12 @@ limit_words limits.Words count =
     codes "the variables up to here take " ++ (decimal count ++ codes " words; 16378 are possible")
 limit_words limits.Items count =
     codes "the tables and texts up to here have " ++ (decimal count ++ codes " items; 4096 are possible")
+limit_words limits.Rows count =
+    codes "the constructs and instances up to here take "
+    ++ (decimal count ++ codes " rows or more; 8192 are possible")
+limit_words limits.Pars count = codes "there are " ++ (decimal count ++ codes " PARs up to here; 1024 are possible")
+limit_words limits.Steps count =
+    codes "the loops here take " ++ (decimal count ++ codes " steps or more; 4611686018427387904 are possible")
 
 -- where it is, the line, and the number
 unfoldable pub excess_text : Text → Excess → List ℕ → Span → Text

@@ -12,10 +12,16 @@ pub enum Limit {
     Guards,
     /// The turns of a replicated `IF`: each has a row.
     Turns,
-    /// The words of the variables and channels that a procedure declares at once.
+    /// The words of the variables and channels that procedures in one another declare at once.
     Words,
     /// The items of the tables and the characters of the texts of a program.
     Items,
+    /// The rows of a module, of those that constructs and instances surely have.
+    Rows,
+    /// The `PAR`s of a program, those of each instance.
+    Pars,
+    /// The steps of a loop with those around it, at least four for each turn.
+    Steps,
 }
 
 impl Limit {
@@ -28,6 +34,9 @@ impl Limit {
             Limit::Turns => 8_191,
             Limit::Words => 16_378,
             Limit::Items => 4_096,
+            Limit::Rows => 8_192,
+            Limit::Pars => 1_024,
+            Limit::Steps => 4_611_686_018_427_387_904,
         }
     }
 }

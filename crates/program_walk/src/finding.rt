@@ -1,27 +1,68 @@
 //! The first limit that a program is above.
 
 use crate::excess::{Excess, Limit};
+use crate::holding::{Words, items_of, words_of};
 use crate::parts::{Part, Visitor};
+use crate::repeating::{
+    Repeating, count_of, pars_of, pars_of_turns, rows_of, rows_of_turns, times_of,
+};
 use crate::walk::walk_program;
 use occam_parser::{
-    Action, Body, ConstantValue, Construct, Declaration, Expr, Item, Names, ValueType,
+    Action, Body, ConstantValue, Construct, Declaration, Item, Names, Replicator, ValueType,
 };
-use program_uses::{size_in, value_as};
-use scalar_ranges::{ExprType, Meaning, Scope};
+use scalar_ranges::{Meaning, Scope};
 use std::alloc::{AllocError, Global};
 
-/// Words that are held by names as long as a scope has more names than this.
+/// What was counted of a procedure with what it calls, or of the constants of the program.
 #[derive(Clone, Copy)]
-struct Held {
-    names: usize,
+struct Counted {
+    rows: u64,
+    pars: u64,
+    /// The most turns of a loop, with those around it.
+    turns: u64,
+    /// The most words of its variables at once.
     words: u64,
+    /// The first limit that is exceeded.
+    excess: Option<Excess>,
 }
 
-/// The words of all names that are in scope.
-#[derive(Drop)]
-struct Words {
-    held: Vec<Held>,
-    all: u64,
+/// The least number of steps that a turn of a loop takes: the instruction that ends it takes four.
+const STEPS_OF_TURN: u64 = 4;
+
+impl Counted {
+    const NOTHING: Counted = Counted {
+        rows: 0,
+        pars: 0,
+        turns: 0,
+        words: 0,
+        excess: None,
+    };
+
+    /// A limit that is exceeded, if one is: the first one counts.
+    fn add(&mut self, excess: Option<Excess>) {
+        self.excess = earlier(self.excess, excess);
+    }
+
+    /// So many rows and PARs more, on this line.
+    fn grow(&mut self, line: u32, rows: u64, pars: u64) {
+        self.rows = self.rows.saturating_add(rows);
+        self.pars = self.pars.saturating_add(pars);
+        self.add(Excess::of(line, Limit::Pars, self.pars));
+        self.add(Excess::of(line, Limit::Rows, self.rows));
+    }
+
+    /// A loop has so many turns, on this line.
+    fn turn(&mut self, line: u32, turns: u64) {
+        self.turns = self.turns.max(turns);
+        let steps = turns.saturating_mul(STEPS_OF_TURN);
+        self.add(Excess::of(line, Limit::Steps, steps));
+    }
+
+    /// Variables have so many words at once, on this line.
+    fn hold(&mut self, line: u32, words: u64) {
+        self.words = self.words.max(words);
+        self.add(Excess::of(line, Limit::Words, words));
+    }
 }
 
 /// What was counted of a program.
@@ -29,39 +70,14 @@ struct Words {
 struct Counts {
     words: Words,
     items: u64,
-    /// The first limit that is exceeded by the constants of the program, and then by each procedure with what it calls.
-    found: Vec<Option<Excess>>,
+    /// How often what is seen is written.
+    repeating: Repeating,
+    /// Of the constants of the program, and then of each procedure.
+    counted: Vec<Counted>,
     /// Which of these is counted.
     place: usize,
     /// Whether memory sufficed.
     complete: bool,
-}
-
-/// How many words a variable or a channel has, or an array of them.
-fn words_of(scope: &Scope, value_type: ValueType, size: &Option<Expr>) -> u64 {
-    let Some(size) = size else { return 1 };
-    let count = u64::from(size_in(scope, size).unwrap_or(0));
-    match value_type {
-        ValueType::Int => count,
-        ValueType::Byte => count / 4 + u64::from(count % 4 != 0),
-    }
-}
-
-/// How many items a constant has.
-fn items_of(value: &ConstantValue) -> u64 {
-    match value {
-        ConstantValue::Scalar(_) => 0,
-        ConstantValue::Table { items, .. } => items.others.len() as u64 + 1,
-        ConstantValue::Text { text, .. } => text.len() as u64,
-    }
-}
-
-/// A count under a replicator.
-fn count_of(scope: &Scope, count: &Expr) -> u64 {
-    match value_as(scope, ExprType::Int, count) {
-        Some(count) => u64::from(count.max(0).unsigned_abs()),
-        None => 0,
-    }
 }
 
 /// The excess on the earlier line.
@@ -73,31 +89,11 @@ fn earlier(first: Option<Excess>, second: Option<Excess>) -> Option<Excess> {
     }
 }
 
-impl Words {
-    /// What a scope no longer has that has this many names.
-    fn leave(&mut self, names: usize) {
-        for _ in 0..self.held.len() {
-            match self.held.last() {
-                Some(held) if held.names >= names => self.all = self.all.saturating_sub(held.words),
-                _ => return,
-            }
-            self.held.pop();
-        }
-    }
-
-    /// Names with so many words, declared where a scope has this many names.
-    fn hold(&mut self, names: usize, words: u64) -> Result<(), AllocError> {
-        self.all = self.all.saturating_add(words);
-        self.held.push(Held { names, words })?;
-        Ok(())
-    }
-}
-
 impl Counts {
-    /// A limit that is exceeded, if one is: the first one counts.
+    /// A limit that is exceeded, if one is.
     fn add(&mut self, excess: Option<Excess>) {
-        if let Some(found) = self.found.get_mut(self.place) {
-            *found = earlier(*found, excess);
+        if let Some(counted) = self.counted.get_mut(self.place) {
+            counted.add(excess);
         }
     }
 
@@ -106,13 +102,48 @@ impl Counts {
         self.add(Excess::of(line, limit, count));
     }
 
-    /// An instance of a procedure, which exceeds what the procedure does.
-    fn see_action(&mut self, scope: &Scope, action: &Action) {
-        if let Action::Instance { name, .. } = action {
-            if let Some(Meaning::Proc(number)) = scope.meaning(name) {
-                let called = self.found.get(number as usize + 1).copied();
-                self.add(called.unwrap_or(None));
-            }
+    /// So many rows and PARs, each time that what is here is written.
+    fn grow(&mut self, line: u32, rows: u64, pars: u64) {
+        let times = self.repeating.times().written;
+        if let Some(counted) = self.counted.get_mut(self.place) {
+            counted.grow(line, rows.saturating_mul(times), pars.saturating_mul(times));
+        }
+    }
+
+    /// A loop with so many turns, in those around it.
+    fn turn(&mut self, line: u32, turns: u64) {
+        let turns = turns.saturating_mul(self.repeating.times().turns);
+        if let Some(counted) = self.counted.get_mut(self.place) {
+            counted.turn(line, turns);
+        }
+    }
+
+    /// So many words beside those of the names in scope.
+    fn hold(&mut self, line: u32, words: u64) {
+        let words = words.saturating_add(self.words.all());
+        if let Some(counted) = self.counted.get_mut(self.place) {
+            counted.hold(line, words);
+        }
+    }
+
+    /// An instance of this procedure, which takes and exceeds what the procedure does. It has a row of its own.
+    fn see_instance(&mut self, line: u32, number: u32) {
+        let called = self.counted.get(number as usize + 1).copied();
+        let called = called.unwrap_or(Counted::NOTHING);
+        self.add(called.excess);
+        self.grow(line, called.rows.saturating_add(1), called.pars);
+        self.turn(line, called.turns);
+        self.hold(line, called.words);
+    }
+
+    fn see_action(&mut self, scope: &Scope, line: u32, action: &Action) {
+        if let Action::Stop = action {
+            self.grow(line, 1, 0);
+        }
+        if let Action::Instance { name, .. } = action
+            && let Some(Meaning::Proc(number)) = scope.meaning(name)
+        {
+            self.see_instance(line, number);
         }
     }
 
@@ -127,7 +158,7 @@ impl Counts {
         let count = names.names.others.len() as u64 + 1;
         let words = words.saturating_mul(count);
         self.complete &= self.words.hold(scope.len(), words).is_ok();
-        self.note(names.line, Limit::Words, self.words.all);
+        self.hold(names.line, 0);
     }
 
     fn see_declaration(&mut self, scope: &Scope, declaration: &Declaration) {
@@ -151,69 +182,77 @@ impl Counts {
                 self.see_value(line, &constant.value);
             }
             Item::Proc(_) => {
-                self.place = self.found.len();
-                self.complete &= self.found.push(None).is_ok();
+                self.place = self.counted.len();
+                self.complete &= self.counted.push(Counted::NOTHING).is_ok();
             }
         }
     }
 
-    /// A block on this line that is repeated this often.
-    fn see_body(&mut self, line: u32, body: &Body, count: u64) {
-        match body {
-            Body::Seq(_) => {}
-            Body::Par(_) => self.note(line, Limit::Components, count),
-            Body::If(_) => self.note(line, Limit::Turns, count),
-            Body::Alt(_) => self.note(line, Limit::Guards, count),
-        }
-    }
-
-    fn see_construct(&mut self, scope: &Scope, line: u32, construct: &Construct) {
+    fn see_construct(&mut self, line: u32, construct: &Construct) {
         match construct {
-            Construct::Action(_) | Construct::Seq(_) | Construct::If(_) => {}
             Construct::Par(processes) => {
                 self.note(line, Limit::Components, processes.len() as u64);
             }
             Construct::Alt(branches) => self.note(line, Limit::Guards, branches.len() as u64),
-            Construct::Replicated { replicator, body } => {
-                self.see_body(line, body, count_of(scope, &replicator.count));
-            }
+            Construct::Action(_)
+            | Construct::Seq(_)
+            | Construct::If(_)
+            | Construct::Replicated { .. } => {}
         }
+        self.grow(line, rows_of(construct), pars_of(construct));
+    }
+
+    /// A body under a replicator begins.
+    fn see_turns(&mut self, scope: &Scope, line: u32, replicator: &Replicator, body: &Body) {
+        let count = count_of(scope, &replicator.count);
+        match body {
+            Body::Seq(_) => self.turn(line, count),
+            Body::Par(_) => self.note(line, Limit::Components, count),
+            Body::If(_) => self.note(line, Limit::Turns, count),
+            Body::Alt(_) => self.note(line, Limit::Guards, count),
+        }
+        self.grow(line, rows_of_turns(body, count), pars_of_turns(body, count));
+        let times = times_of(body, count);
+        self.complete &= self.repeating.enter(scope.len(), times).is_ok();
     }
 }
 
 impl Visitor for Counts {
     fn visit(&mut self, scope: &Scope<'_>, line: u32, part: Part<'_, '_>) {
         self.words.leave(scope.len());
+        self.repeating.leave(scope.len());
         match part {
             Part::Item(item) => self.see_item(line, item),
             Part::Declaration(declaration) => self.see_declaration(scope, declaration),
-            Part::Construct(construct) => self.see_construct(scope, line, construct),
-            Part::Action(action) => self.see_action(scope, action),
-            Part::Replicator(_) | Part::Condition(_) | Part::Guard(_) => {}
+            Part::Construct(construct) => self.see_construct(line, construct),
+            Part::Turns(replicator, body) => self.see_turns(scope, line, replicator, body),
+            Part::Action(action) => self.see_action(scope, line, action),
+            Part::Condition(_) | Part::Guard(_) => {}
         }
     }
 }
 
 /// The first limit that a program is above, if its source shows one: its constants do, or `main`, the last procedure, with
-/// what it calls. That a program which is refused for a limit is above this one is claimed by no contract: the code of an
-/// instance is not counted, nor that of a line.
+/// what it calls. That a program which is refused for a limit is above this one is claimed by no contract: the bytes of its
+/// code are not counted, and of its rows those that it surely has.
 pub fn limit_excess(alloc: Global, items: &[Item]) -> Result<Option<Excess>, AllocError> {
     let mut counts = Counts {
-        words: Words {
-            held: Vec::new(alloc),
-            all: 0,
-        },
+        words: Words::new(alloc),
         items: 0,
-        found: Vec::new(alloc),
+        repeating: Repeating::new(alloc),
+        counted: Vec::new(alloc),
         place: 0,
         complete: true,
     };
-    counts.found.push(None)?;
+    counts.counted.push(Counted::NOTHING)?;
     walk_program(alloc, items, &mut counts)?;
     if !counts.complete {
         return Err(AllocError);
     }
-    let constants = counts.found.first().copied().unwrap_or(None);
-    let main = counts.found.last().copied().unwrap_or(None);
-    Ok(earlier(constants, main))
+    let constants = counts.counted.first().copied();
+    let main = counts.counted.last().copied();
+    Ok(earlier(
+        constants.unwrap_or(Counted::NOTHING).excess,
+        main.unwrap_or(Counted::NOTHING).excess,
+    ))
 }

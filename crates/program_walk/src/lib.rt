@@ -3,9 +3,11 @@
 
 mod excess;
 mod finding;
+mod holding;
 mod knowing;
 mod listing;
 mod parts;
+mod repeating;
 mod texts;
 mod walk;
 

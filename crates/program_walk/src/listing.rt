@@ -105,7 +105,7 @@ impl Visitor for Listing<'_, '_> {
     fn visit(&mut self, scope: &Scope<'_>, line: u32, part: Part<'_, '_>) {
         let but = match part {
             Part::Item(_) | Part::Declaration(_) | Part::Construct(_) => return,
-            Part::Replicator(replicator) => Some(replicator.name),
+            Part::Turns(replicator, _) => Some(replicator.name),
             Part::Action(_) | Part::Condition(_) | Part::Guard(_) => None,
         };
         if line < self.number || line > self.last {

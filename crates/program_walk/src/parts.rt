@@ -1,6 +1,6 @@
 //! What a walk comes to.
 
-use occam_parser::{Action, Construct, Declaration, Expr, Guard, Item, Replicator};
+use occam_parser::{Action, Body, Construct, Declaration, Expr, Guard, Item, Replicator};
 use scalar_ranges::Scope;
 
 /// A part of a program, which stands on one line or begins there.
@@ -12,8 +12,8 @@ pub(crate) enum Part<'p, 'a> {
     Declaration(&'p Declaration<'a>),
     /// A `SEQ`, a `PAR`, an `IF` or an `ALT`, with what is in it.
     Construct(&'p Construct<'a>),
-    /// The name, the base and the count of a replicator.
-    Replicator(&'p Replicator<'a>),
+    /// The name, the base and the count of a replicator, and the body under it.
+    Turns(&'p Replicator<'a>, &'p Body<'a>),
     /// An action.
     Action(&'p Action<'a>),
     /// The condition of a choice.

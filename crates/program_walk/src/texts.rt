@@ -30,6 +30,15 @@ fn push_limit(text: &mut String, limit: Limit, count: u64) -> Result<(), AllocEr
             text,
             "the tables and texts up to here have {count} items; 4096 are possible"
         ),
+        Limit::Rows => write!(
+            text,
+            "the constructs and instances up to here take {count} rows or more; 8192 are possible"
+        ),
+        Limit::Pars => write!(text, "there are {count} PARs up to here; 1024 are possible"),
+        Limit::Steps => write!(
+            text,
+            "the loops here take {count} steps or more; 4611686018427387904 are possible"
+        ),
     }
 }
 

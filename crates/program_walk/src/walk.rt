@@ -217,7 +217,7 @@ impl<'a> Walk<'a> {
         replicator: &Replicator<'a>,
         body: &Body<'a>,
     ) {
-        visitor.visit(&self.scope, line, Part::Replicator(replicator));
+        visitor.visit(&self.scope, line, Part::Turns(replicator, body));
         let repeats = repeats_of(true, &self.scope, true, replicator);
         self.begin_turns(replicator, body);
         self.add(replicator.name, repeats.index_in(0));
