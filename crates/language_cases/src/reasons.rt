@@ -1,10 +1,11 @@
 //! What is written of a source that is refused or known, as statements ask.
 
 use crate::layers::has_lines;
+use compiler::exceeded;
 use conformance::{Answer, Outcome, Statement, judged};
 use occam_layout::{Line, lines};
 use occam_parser::{Program, parse};
-use program_walk::{known_lines, limit_excess, limit_text};
+use program_walk::{known_lines, limit_text};
 use reason_texts::{layout_text, line_of, parse_text};
 use std::alloc::{AllocError, Global};
 use usage_checks::{UsageFault, check};
@@ -104,9 +105,9 @@ fn text_of_limit(
     alloc: Global,
     source: &[u8],
     lines: &[Line<'_>],
-    program: &Program<'_>,
+    program: Program<'_>,
 ) -> Result<String, AllocError> {
-    let excess = limit_excess(alloc, program.items())?;
+    let excess = exceeded(alloc, program)?;
     limit_text(alloc, PATH, source, lines, excess)
 }
 
@@ -126,7 +127,7 @@ pub(crate) fn ask_program(
     };
     let text = match last {
         Some(last) => known_lines(alloc, source, &lines, &program, last),
-        None => text_of_limit(alloc, source, &lines, &program),
+        None => text_of_limit(alloc, source, &lines, program),
     };
     match text {
         Ok(text) => judge_text(Some(text), statement, out),

@@ -13,3 +13,4 @@ most_of limits.Items = 4096
 most_of limits.Rows = 8192
 most_of limits.Pars = 1024
 most_of limits.Steps = 4611686018427387904
+most_of limits.Bytes = 262143

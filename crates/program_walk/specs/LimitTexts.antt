@@ -27,6 +27,8 @@ limit_words limits.Rows count =
 limit_words limits.Pars count = codes "there are " ++ (decimal count ++ codes " PARs up to here; 1024 are possible")
 limit_words limits.Steps count =
     codes "the loops here take " ++ (decimal count ++ codes " steps or more; 4611686018427387904 are possible")
+limit_words limits.Bytes count =
+    codes "the code up to here takes " ++ (decimal count ++ codes " bytes or more; 262143 are possible")
 
 -- where it is, the line, and the number
 unfoldable pub excess_text : Text → Excess → List ℕ → Span → Text

@@ -1,9 +1,9 @@
 //! What is above a limit.
 
-ghost use Rattle.std.specs.Prelude.{◌≡◌, ◌<◌};
+ghost use Rattle.std.specs.Prelude.{◌≡◌, ◌<◌, ◌≤◌, ◌×◌, IfSome, None};
 ghost use Rattle.program_walk.specs.Excesses.{most_of};
 
-/// A limit of what is made of a program: one that its source alone shows to be exceeded.
+/// A limit of what is made of a program.
 #[derive(Clone, Copy)]
 pub enum Limit {
     /// The components of a `PAR`.
@@ -22,6 +22,8 @@ pub enum Limit {
     Pars,
     /// The steps of a loop with those around it, at least four for each turn.
     Steps,
+    /// The bytes of the code.
+    Bytes,
 }
 
 impl Limit {
@@ -37,6 +39,7 @@ impl Limit {
             Limit::Rows => 8_192,
             Limit::Pars => 1_024,
             Limit::Steps => 4_611_686_018_427_387_904,
+            Limit::Bytes => 262_143,
         }
     }
 }
@@ -54,7 +57,10 @@ pub struct Excess {
 
 impl Excess {
     /// This many on a line, if they are more than are possible.
-    pub(crate) fn of(line: u32, limit: Limit, count: u64) -> Option<Excess> {
+    pub fn of(line: u32, limit: Limit, count: u64) -> Option<Excess>
+        ensures some { IfSome result (λ e. (e.line ≡ line) × (e.limit ≡ limit) × (e.count ≡ count)) }
+        ensures none { result ≡ None → count ≤ most_of limit }
+    {
         if count > limit.most() {
             Some(Excess { line, limit, count })
         } else {

@@ -39,6 +39,10 @@ fn push_limit(text: &mut String, limit: Limit, count: u64) -> Result<(), AllocEr
             text,
             "the loops here take {count} steps or more; 4611686018427387904 are possible"
         ),
+        Limit::Bytes => write!(
+            text,
+            "the code up to here takes {count} bytes or more; 262143 are possible"
+        ),
     }
 }
 

@@ -10,7 +10,7 @@ use compiler::CompileFault;
 use module_builder::GenFault;
 use occam_layout::{Line, lines};
 use occam_parser::{ParseFault, Program, parse};
-use program_walk::{limit_excess, limit_text};
+use program_walk::limit_text;
 use reason_texts::{layout_text, line_of, parse_text};
 use std::alloc::{AllocError, Global};
 use std::fmt;
@@ -121,7 +121,7 @@ fn limit_text_of_lines(
     let Ok(program) = parse(alloc, lines) else {
         return Err(AllocError);
     };
-    let excess = limit_excess(alloc, program.items())?;
+    let excess = exceeded(alloc, program)?;
     let text = limit_text(alloc, path, source, lines, excess)?;
     Ok(Some(text))
 }
