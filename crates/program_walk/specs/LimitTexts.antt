@@ -3,7 +3,7 @@ use Rattle.std.specs.Prelude.{◌≡◌, ℕ, List, ◌++◌, codes, Option, Som
 use Rattle.std.specs.Fmt.{decimal}
 use Rattle.occam_layout.specs.declared.token.Line.{Line}
 use Rattle.occam_layout.specs.declared.token.Token.{Token}
-use Rattle.source_reasons.specs.Lines.{Sight, line_found}
+use Rattle.reason_texts.specs.Lines.{Sight, line_found}
 use Rattle.reason_texts.specs.declared.block.Span.{Span}
 use Rattle.reason_texts.specs.Blocks.{Text, block_text, place_text}
 use Rattle.reason_texts.specs.ParseTexts.{line_of, line_span}

@@ -5,8 +5,7 @@ ghost use Rattle.program_walk.specs.LimitTexts.{excess_text, large_text, limit_t
 
 use crate::excess::{Excess, Limit};
 use occam_layout::Line;
-use reason_texts::{Span, line_of, line_span, push_block, push_place};
-use source_reasons::find_line;
+use reason_texts::{Span, find_line, line_of, line_span, push_block, push_place};
 use std::alloc::{AllocError, Global};
 
 /// Appends what there is too much of, how much, and how much is possible.

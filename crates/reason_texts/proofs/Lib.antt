@@ -1,1 +1,9 @@
+pub mod TokensAlike
+pub mod FaultsExplained
+pub mod LinesFound
+pub mod BadTokens
+pub mod Turns
+pub mod LinesAbove
+pub mod Levels
+pub mod Steps
 pub mod HintsFound

@@ -3,14 +3,14 @@ use Rattle.std.specs.Prelude.{ℕ, List, [], ◌++◌, codes, ◌==◌, nat_le, 
 use Rattle.std.specs.Prelude.{option_map, get_or}
 use Rattle.std.specs.Fmt.{decimal}
 use Rattle.occam_layout.specs.declared.fault.LayoutFault.{LayoutFault}
-use Rattle.source_reasons.specs.declared.lines.Above.{Above}
-use Rattle.source_reasons.specs.declared.tokens.BadToken.{BadToken}
-use Rattle.source_reasons.specs.declared.tokens.TokenFault.{TokenFault}
-use Rattle.source_reasons.specs.declared.tokens.TokenFault.TheVariants as wrong
-use Rattle.source_reasons.specs.declared.layout.LayoutReason.{LayoutReason}
-use Rattle.source_reasons.specs.declared.layout.LayoutReason.TheVariants as reason
-use Rattle.source_reasons.specs.Lines.{Sight, line_found}
-use Rattle.source_reasons.specs.LayoutReasons.{place_of, layout_reason}
+use Rattle.reason_texts.specs.declared.lines.Above.{Above}
+use Rattle.reason_texts.specs.declared.tokens.BadToken.{BadToken}
+use Rattle.reason_texts.specs.declared.tokens.TokenFault.{TokenFault}
+use Rattle.reason_texts.specs.declared.tokens.TokenFault.TheVariants as wrong
+use Rattle.reason_texts.specs.declared.layout.LayoutReason.{LayoutReason}
+use Rattle.reason_texts.specs.declared.layout.LayoutReason.TheVariants as reason
+use Rattle.reason_texts.specs.Lines.{Sight, line_found}
+use Rattle.reason_texts.specs.LayoutReasons.{place_of, layout_reason}
 use Rattle.reason_texts.specs.declared.block.Span.{Span}
 use Rattle.reason_texts.specs.Blocks.{Text, place_text, number_text, closed_text, rest_text}
 

@@ -1,3 +1,12 @@
+pub mod Classes
+pub mod Lines
+pub mod Tokens
+pub mod LayoutReasons
+pub mod Stuck
+pub mod Expressions
+pub mod Forms
+pub mod Contexts
+pub mod ParseReasons
 pub mod Blocks
 pub mod LayoutTexts
 pub mod Hints

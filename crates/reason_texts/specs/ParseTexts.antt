@@ -11,16 +11,16 @@ use Rattle.occam_layout.specs.declared.token.TokenKind.{TokenKind}
 use Rattle.occam_layout.specs.declared.token.TokenKind.TheVariants as token
 use Rattle.occam_parser.specs.Blocks.{rows_of}
 use Rattle.occam_parser.specs.declared.fault.ParseFault.{ParseFault}
-use Rattle.source_reasons.specs.Lines.{Sight, line_found}
-use Rattle.program_reasons.specs.declared.forms.Form.{Form}
-use Rattle.program_reasons.specs.declared.forms.Form.TheVariants as form
-use Rattle.program_reasons.specs.declared.stuck.Wanted.{Wanted}
-use Rattle.program_reasons.specs.declared.stuck.Wanted.TheVariants as wanted
-use Rattle.program_reasons.specs.declared.stuck.Lack.{Lack}
-use Rattle.program_reasons.specs.declared.stuck.Lack.TheVariants as lack
-use Rattle.program_reasons.specs.declared.parse.ParseReason.{ParseReason}
-use Rattle.program_reasons.specs.declared.parse.ParseReason.TheVariants as reason
-use Rattle.program_reasons.specs.ParseReasons.{parse_reason}
+use Rattle.reason_texts.specs.Lines.{Sight, line_found}
+use Rattle.reason_texts.specs.declared.forms.Form.{Form}
+use Rattle.reason_texts.specs.declared.forms.Form.TheVariants as form
+use Rattle.reason_texts.specs.declared.stuck.Wanted.{Wanted}
+use Rattle.reason_texts.specs.declared.stuck.Wanted.TheVariants as wanted
+use Rattle.reason_texts.specs.declared.stuck.Lack.{Lack}
+use Rattle.reason_texts.specs.declared.stuck.Lack.TheVariants as lack
+use Rattle.reason_texts.specs.declared.parse.ParseReason.{ParseReason}
+use Rattle.reason_texts.specs.declared.parse.ParseReason.TheVariants as reason
+use Rattle.reason_texts.specs.ParseReasons.{parse_reason}
 use Rattle.reason_texts.specs.declared.block.Span.{Span}
 use Rattle.reason_texts.specs.Blocks.{Text, place_text, closed_text, rest_text}
 use Rattle.reason_texts.specs.Hints.{word_hint}

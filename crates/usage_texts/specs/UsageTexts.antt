@@ -3,7 +3,7 @@ use Rattle.std.specs.Prelude.{ℕ, Bool, true, false, List, [], ◌++◌, codes,
 use Rattle.std.specs.List.{flat_map}
 use Rattle.occam_layout.specs.declared.token.Line.{Line}
 use Rattle.occam_layout.specs.declared.token.Token.{Token}
-use Rattle.source_reasons.specs.Lines.{Sight, line_found}
+use Rattle.reason_texts.specs.Lines.{Sight, line_found}
 use Rattle.reason_texts.specs.Blocks.{Text, place_text, number_text, block_text, hint_text}
 use Rattle.reason_texts.specs.ParseTexts.{line_of}
 use Rattle.reason_texts.specs.declared.block.Span.{Span}

@@ -1,4 +1,0 @@
-pub mod Turns
-pub mod LinesAbove
-pub mod Levels
-pub mod Steps

@@ -1,4 +1,0 @@
-use Rattle.reason_texts.proofs.parse.push_wanted.Goals as goal
-
-pub returns : goal.returns
-returns c = rw (← c.wanted_quote-quote.ensures, ← c.wanted_words-words.ensures) c.write.ensures.bytes

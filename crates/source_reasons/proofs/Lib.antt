@@ -1,4 +1,0 @@
-pub mod TokensAlike
-pub mod FaultsExplained
-pub mod LinesFound
-pub mod BadTokens

@@ -1,4 +1,0 @@
-pub mod Classes
-pub mod Lines
-pub mod Tokens
-pub mod LayoutReasons
