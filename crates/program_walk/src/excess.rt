@@ -1,6 +1,6 @@
 //! What is above a limit.
 
-ghost use Rattle.std.specs.Prelude.{◌≡◌, ◌<◌, ◌≤◌, ◌×◌, IfSome, None};
+ghost use Rattle.std.specs.Prelude.{◌≡◌, ◌<◌, ◌≤◌, IfSome, None};
 ghost use Rattle.program_walk.specs.Excesses.{most_of};
 
 /// A limit of what is made of a program.
