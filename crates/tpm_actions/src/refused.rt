@@ -6,7 +6,7 @@ ghost use Rattle.compiler.specs.Compiled.{IsRefusedFor};
 ghost use Rattle.tpm_actions.specs.Compiling.{IsGenerationReason, IsLimitReason, IsParseReason, IsReason, IsRefusedAs, IsUsageReason};
 ghost use Rattle.tpm_actions.specs.Compiling.{mistake_text, IsSomeReasonOf, IsUsageText};
 
-use compiler::CompileFault;
+use compiler::{CompileFault, exceeded};
 use module_builder::GenFault;
 use occam_layout::{Line, lines};
 use occam_parser::{ParseFault, Program, parse};
