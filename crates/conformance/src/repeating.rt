@@ -1,6 +1,7 @@
 //! Calls that are repeated, so that their time can be taken from outside.
 
-ghost use Rattle.std.specs.Prelude.{◌≡◌, ◌↔◌};
+ghost use Rattle.std.specs.Prelude.{◌≡◌, ◌↔◌, ◌≤◌, IfOk};
+ghost use Rattle.std.specs.Process.{exit_status};
 ghost use Rattle.conformance.specs.declared.repeating.Failure.TheVariants.{Memory};
 
 use crate::cases::try_named;
@@ -64,7 +65,9 @@ fn asked(words: &[String]) -> Option<Repetition> {
 }
 
 /// Prints a checksum, or says why there is none.
-fn print(rt: &(impl Print + Eprint), checksum: Result<u64, Failure>) -> io::Result<ExitCode> {
+fn print(rt: &(impl Print + Eprint), checksum: Result<u64, Failure>) -> io::Result<ExitCode>
+    ensures { IfOk result (λ code. exit_status code ≤ 2) }
+{
     match checksum {
         Ok(checksum) => {
             println!(rt; "{checksum}")?;
@@ -86,7 +89,9 @@ fn print(rt: &(impl Print + Eprint), checksum: Result<u64, Failure>) -> io::Resu
 fn repeat<C: Calls, R: Files + Print + Eprint + AllocGlobal>(
     rt: &R,
     asked: Repetition,
-) -> io::Result<ExitCode> {
+) -> io::Result<ExitCode>
+    ensures { IfOk result (λ code. exit_status code ≤ 2) }
+{
     let bytes = fs::read(rt, asked.file)?;
     print(rt, C::repeat(rt.alloc(), asked.call, &bytes, asked.times))
 }
@@ -99,7 +104,9 @@ fn repeat<C: Calls, R: Files + Print + Eprint + AllocGlobal>(
 /// read from standard input. The status is 1 if a case differs or cannot be read, and else 0.
 pub fn try_or_repeat<K: Kind, C: Calls, R: Env + Files + Input + Print + Eprint + AllocGlobal>(
     rt: &R,
-) -> io::Result<ExitCode> {
+) -> io::Result<ExitCode>
+    ensures { IfOk result (λ code. exit_status code ≤ 2) }
+{
     let words: Vec<String> = env::args(rt)?.collect(rt.alloc())?;
     match asked(&words) {
         Some(asked) => repeat::<C, R>(rt, asked),
