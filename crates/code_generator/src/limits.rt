@@ -9,8 +9,8 @@ use line_pieces::{GREATEST_ROWS, GREATEST_SAID, Listing, plus, size_of_count};
 use module_builder::GenFault;
 use program_sizes::GREATEST_SIZE;
 
-/// How many processes may be in one another, bodies of procedures among them. Each takes less than two KB of stack, since
-/// what writes no process in it is not inlined.
+/// How many processes may be in one another, bodies of procedures among them. Each takes less than two KB of stack: what
+/// writes no process in it is not inlined, and what writes a `PAR`, an `ALT` or a replicated block has a frame of its own.
 pub(crate) const GREATEST_DEPTH: u32 = 2_048;
 
 /// As how many processes an instance counts beside its own, for the stack that it takes.

@@ -12,6 +12,7 @@ use crate::limits::Limits;
 use crate::processes::ProcessWriter;
 use code_pieces::Piece;
 use line_pieces::{Listing, label_after, word_after};
+use loop_scopes::begin_loop;
 use module_builder::GenFault;
 use occam_parser::{Expr, Process};
 use program_uses::{add_name, value_as};
@@ -120,7 +121,7 @@ impl<'a> ProcessWriter<'a> {
             turning.count,
         )?;
         self.frame.add_block(head)?;
-        self.scope.begin_loop(changed)?;
+        begin_loop(&mut self.scope, changed)?;
         add_name(&mut self.scope, turning.name, turning.index)?;
         self.write_row(limits, head)?;
         Ok(())

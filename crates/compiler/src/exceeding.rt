@@ -35,6 +35,37 @@ fn line_of(marks: &[LineMark], number: usize) -> u32 {
     line
 }
 
+/// Whether one of these tables has these values.
+fn is_among(tables: &[&[i32]], values: &[i32]) -> bool {
+    for table in tables {
+        if *table == values {
+            return true;
+        }
+    }
+    false
+}
+
+/// The tables that code reads, if they are too many, and the line with which they are.
+fn many_tables(alloc: Global, marked: &MarkedPieces) -> Result<Option<Excess>, AllocError> {
+    let mut tables: Vec<&[i32]> = Vec::new(alloc);
+    for (number, piece) in marked.pieces.iter().enumerate() {
+        if let Piece::TableAddress(ref values) = *piece
+            && !is_among(&tables, values)
+        {
+            tables.push(values)?;
+            let excess = Excess::of(
+                line_of(&marked.marks, number),
+                Limit::Tables,
+                tables.len() as u64,
+            );
+            if excess.is_some() {
+                return Ok(excess);
+            }
+        }
+    }
+    Ok(None)
+}
+
 /// The length of code, if it is too long whatever its distances are, and the line with which it is.
 fn long_code(marked: &MarkedPieces) -> Option<Excess> {
     let mut bytes: u64 = 0;
@@ -47,9 +78,17 @@ fn long_code(marked: &MarkedPieces) -> Option<Excess> {
     None
 }
 
-/// The first limit that a program is above which was refused for one: what its source shows, or else the length of its
-/// code. There is none where it would take too long to write, or is above another limit of the format. That it was refused
-/// for this limit no clause says.
+/// What code is above: its length, or else the number of its tables.
+fn excess_of_code(alloc: Global, marked: &MarkedPieces) -> Result<Option<Excess>, AllocError> {
+    match long_code(marked) {
+        Some(excess) => Ok(Some(excess)),
+        None => many_tables(alloc, marked),
+    }
+}
+
+/// The first limit that a program is above which was refused for one: what its source shows, or else its code. There is
+/// none where it would take too long to write a sequential program, or where the budget is too large for a reason that
+/// no line shows. That it was refused for this limit no clause says.
 pub fn exceeded(alloc: Global, program: Program<'_>) -> Result<Option<Excess>, AllocError> {
     let shown = limit_excess(alloc, program.items())?;
     if shown.is_some() {
@@ -60,7 +99,7 @@ pub fn exceeded(alloc: Global, program: Program<'_>) -> Result<Option<Excess>, A
         return Err(AllocError);
     };
     match code_of(alloc, &checked) {
-        Ok(code) => Ok(long_code(&code.listing.into_marked())),
+        Ok(code) => excess_of_code(alloc, &code.listing.into_marked()),
         Err(GenFault::Memory) => Err(AllocError),
         Err(GenFault::Limit | GenFault::Invalid) => Ok(None),
     }

@@ -7,6 +7,9 @@ use std::alloc::Global;
 /// What begins a spelling in a text of a source.
 const SIGN: u8 = b'\\';
 
+/// What stands for a number in a text that is appended for several.
+const NUMBER: u8 = b'%';
+
 /// A source, of which statements say parts.
 #[derive(Drop)]
 pub(crate) struct Source {
@@ -67,6 +70,7 @@ impl Source {
             "source" => self.begin(statement.rest, statement.block),
             "repeat" => self.repeat(statement.rest, statement.block),
             "levels" => self.descend(statement.rest),
+            "numbers" => self.count(statement.rest),
             "VAL" | "PROC" | ":" => self.append_item(statement),
             _ => return None,
         };
@@ -105,6 +109,30 @@ impl Source {
         for level in from..to {
             self.append(level, b"  ")?;
             self.append(1, &text)?;
+        }
+        Some(())
+    }
+
+    /// Appends a text with a number for each sign of one.
+    fn append_numbered(&mut self, text: &[u8], number: u32) -> Option<()> {
+        let digits = format!(in self.alloc; "{number}").ok()?;
+        for byte in text {
+            if *byte == NUMBER {
+                self.append(1, digits.as_bytes())?;
+            } else {
+                self.append(1, &[*byte])?;
+            }
+        }
+        Some(())
+    }
+
+    /// Appends a text for each number from the first up to the second, which is left out: `FROM TO "TEXT"`.
+    fn count(&mut self, said: &str) -> Option<()> {
+        let (from, rest) = number(said)?;
+        let (to, quoted) = number(rest)?;
+        let text = text_of(self.alloc, quoted, &[])?;
+        for number in from..to {
+            self.append_numbered(&text, number)?;
         }
         Some(())
     }

@@ -1,2 +1,3 @@
 pub mod Excesses
 pub mod LimitTexts
+pub mod Listings

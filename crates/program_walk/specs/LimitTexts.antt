@@ -24,11 +24,23 @@ limit_words limits.Items count =
 limit_words limits.Rows count =
     codes "the constructs and instances up to here take "
     ++ (decimal count ++ codes " rows or more; 8192 are possible")
+limit_words limits.Entries count =
+    codes "the rows up to here have " ++ (decimal count ++ codes " entries or more; 4194304 are possible")
 limit_words limits.Pars count = codes "there are " ++ (decimal count ++ codes " PARs up to here; 1024 are possible")
+limit_words limits.Nesting count = decimal count ++ codes " PARs are within one another here; 64 are possible"
+limit_words limits.Processes count =
+    decimal count ++ codes " processes are within one another here; 2048 are possible"
 limit_words limits.Steps count =
     codes "the loops here take " ++ (decimal count ++ codes " steps or more; 4611686018427387904 are possible")
 limit_words limits.Bytes count =
     codes "the code up to here takes " ++ (decimal count ++ codes " bytes or more; 262143 are possible")
+limit_words limits.Tables count =
+    codes "the code up to here reads " ++ (decimal count ++ codes " tables; 1024 are possible")
+limit_words limits.Size count =
+    codes "the lines up to here, those of each instance again, have a size of "
+    ++ (decimal count ++ codes " or more; 8388608 is possible")
+limit_words limits.Work count =
+    codes "writing the code up to here takes " ++ (decimal count ++ codes " steps or more; 400000000 are possible")
 
 -- where it is, the line, and the number
 unfoldable pub excess_text : Text → Excess → List ℕ → Span → Text

@@ -18,12 +18,24 @@ pub enum Limit {
     Items,
     /// The rows of a module, of those that constructs and instances surely have.
     Rows,
+    /// The entries of these rows.
+    Entries,
     /// The `PAR`s of a program, those of each instance.
     Pars,
+    /// The `PAR`s in one another, those around an instance among them.
+    Nesting,
+    /// The processes in one another, those around an instance among them.
+    Processes,
     /// The steps of a loop with those around it, at least four for each turn.
     Steps,
     /// The bytes of the code.
     Bytes,
+    /// The different tables that code reads.
+    Tables,
+    /// The sizes of the lines that are written, those of each instance.
+    Size,
+    /// The steps of work beside writing.
+    Work,
 }
 
 impl Limit {
@@ -32,14 +44,18 @@ impl Limit {
         ensures { result ≡ most_of self }
     {
         match self {
-            Limit::Components | Limit::Guards => 64,
+            Limit::Components | Limit::Guards | Limit::Nesting => 64,
             Limit::Turns => 8_191,
             Limit::Words => 16_378,
             Limit::Items => 4_096,
             Limit::Rows => 8_192,
-            Limit::Pars => 1_024,
+            Limit::Entries => 4_194_304,
+            Limit::Pars | Limit::Tables => 1_024,
+            Limit::Processes => 2_048,
             Limit::Steps => 4_611_686_018_427_387_904,
             Limit::Bytes => 262_143,
+            Limit::Size => 8_388_608,
+            Limit::Work => 400_000_000,
         }
     }
 }

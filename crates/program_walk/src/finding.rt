@@ -1,181 +1,218 @@
 //! The first limit that a program is above.
 
+use crate::counting::{Amounts, Counted, Peaks, earlier};
 use crate::excess::{Excess, Limit};
-use crate::holding::{Words, items_of, words_of};
-use crate::parts::{Part, Visitor};
-use crate::repeating::{
-    Repeating, count_of, pars_of, pars_of_turns, rows_of, rows_of_turns, times_of,
-};
+use crate::holding::{bytes_of, items_of, names_of, words_of};
+use crate::nesting::Nesting;
+use crate::parts::{Depth, Part, Visitor};
+use crate::repeating::{count_of, is_tested, pars_of, pars_of_turns, rows_of, rows_of_turns};
 use crate::walk::walk_program;
 use occam_parser::{
-    Action, Body, ConstantValue, Construct, Declaration, Item, Names, Replicator, ValueType,
+    Action, Body, ConstantValue, Construct, Declaration, Expr, Guard, Item, Names, Replicator,
+    ValueType,
 };
+use program_sizes::{size_of_action, size_of_condition, size_of_declaration, size_of_guard};
+use program_work::{is_sequential, reading_of_action, reading_of_condition, reading_of_guard};
 use scalar_ranges::{Meaning, Scope};
 use std::alloc::{AllocError, Global};
 
-/// What was counted of a procedure with what it calls, or of the constants of the program.
-#[derive(Clone, Copy)]
-struct Counted {
-    rows: u64,
-    pars: u64,
-    /// The most turns of a loop, with those around it.
-    turns: u64,
-    /// The most words of its variables at once.
-    words: u64,
-    /// The first limit that is exceeded.
-    excess: Option<Excess>,
-}
+/// The work of what is read of a line, for each unit.
+const READING_STEPS: u64 = 16;
 
-/// The least number of steps that a turn of a loop takes: the instruction that ends it takes four.
-const STEPS_OF_TURN: u64 = 4;
+/// The work of finding out what a process changes, and what each unit of a line does.
+const PROCESS_STEPS: u64 = 40;
 
-impl Counted {
-    const NOTHING: Counted = Counted {
-        rows: 0,
-        pars: 0,
-        turns: 0,
-        words: 0,
-        excess: None,
-    };
+const FINDING_STEPS: u64 = 16;
 
-    /// A limit that is exceeded, if one is: the first one counts.
-    fn add(&mut self, excess: Option<Excess>) {
-        self.excess = earlier(self.excess, excess);
-    }
+/// The work of an actual, and of each name from before a procedure at an instance of it.
+const PASSING_STEPS: u64 = 400;
 
-    /// So many rows and PARs more, on this line.
-    fn grow(&mut self, line: u32, rows: u64, pars: u64) {
-        self.rows = self.rows.saturating_add(rows);
-        self.pars = self.pars.saturating_add(pars);
-        self.add(Excess::of(line, Limit::Pars, self.pars));
-        self.add(Excess::of(line, Limit::Rows, self.rows));
-    }
+const LENDING_STEPS: u64 = 8;
 
-    /// A loop has so many turns, on this line.
-    fn turn(&mut self, line: u32, turns: u64) {
-        self.turns = self.turns.max(turns);
-        let steps = turns.saturating_mul(STEPS_OF_TURN);
-        self.add(Excess::of(line, Limit::Steps, steps));
-    }
-
-    /// Variables have so many words at once, on this line.
-    fn hold(&mut self, line: u32, words: u64) {
-        self.words = self.words.max(words);
-        self.add(Excess::of(line, Limit::Words, words));
-    }
-}
+/// As how many processes an instance counts beside those in its procedure.
+const INSTANCE_DEPTH: u64 = 2;
 
 /// What was counted of a program.
 #[derive(Drop)]
 struct Counts {
-    words: Words,
+    nesting: Nesting,
+    /// How deep the process is that is counted.
+    depth: Depth,
     items: u64,
-    /// How often what is seen is written.
-    repeating: Repeating,
     /// Of the constants of the program, and then of each procedure.
     counted: Vec<Counted>,
     /// Which of these is counted.
     place: usize,
+    /// Whether the program is sequential: then its lines, its work and its depth are bounded otherwise.
+    is_sequential: bool,
     /// Whether memory sufficed.
     complete: bool,
 }
 
-/// The excess on the earlier line.
-fn earlier(first: Option<Excess>, second: Option<Excess>) -> Option<Excess> {
-    match (first, second) {
-        (Some(one), Some(other)) if one.line <= other.line => first,
-        (_, None) => first,
-        _ => second,
-    }
-}
-
 impl Counts {
     /// A limit that is exceeded, if one is.
-    fn add(&mut self, excess: Option<Excess>) {
+    fn note(&mut self, excess: Option<Excess>) {
+        if self.nesting.here().written == 0 {
+            return;
+        }
         if let Some(counted) = self.counted.get_mut(self.place) {
-            counted.add(excess);
+            counted.note(excess);
         }
     }
 
-    /// So many of a line.
-    fn note(&mut self, line: u32, limit: Limit, count: u64) {
-        self.add(Excess::of(line, limit, count));
+    /// So many on a line.
+    fn count(&mut self, line: u32, limit: Limit, count: u64) {
+        self.note(Excess::of(line, limit, count));
     }
 
-    /// So many rows and PARs, each time that what is here is written.
-    fn grow(&mut self, line: u32, rows: u64, pars: u64) {
-        let times = self.repeating.times().written;
+    /// What comes with a line, each time that it is written, and so many steps of searching, each time that it is gone over
+    /// for what is changed.
+    fn add(&mut self, line: u32, amounts: Amounts, peaks: Peaks, searching: u64) {
+        let here = self.nesting.here();
+        if here.written == 0 {
+            return;
+        }
+        let searching = searching.saturating_mul(here.searched);
+        let mut amounts = amounts.times(here.written).plus(Amounts::work(searching));
+        if self.is_sequential {
+            amounts = Amounts {
+                size: 0,
+                work: 0,
+                ..amounts
+            };
+        }
         if let Some(counted) = self.counted.get_mut(self.place) {
-            counted.grow(line, rows.saturating_mul(times), pars.saturating_mul(times));
+            counted.add(line, amounts, peaks);
         }
     }
 
-    /// A loop with so many turns, in those around it.
-    fn turn(&mut self, line: u32, turns: u64) {
-        let turns = turns.saturating_mul(self.repeating.times().turns);
-        if let Some(counted) = self.counted.get_mut(self.place) {
-            counted.turn(line, turns);
-        }
+    /// A line of this size, of which so much is read, and which is so many bytes of code.
+    fn see_line(&mut self, line: u32, size: u32, reading: u32, bytes: u64) {
+        let amounts = Amounts {
+            size: u64::from(size),
+            bytes,
+            ..Amounts::work(u64::from(reading).saturating_mul(READING_STEPS))
+        };
+        let searching = u64::from(size).saturating_mul(FINDING_STEPS);
+        self.add(line, amounts, Peaks::NOTHING, searching);
     }
 
-    /// So many words beside those of the names in scope.
-    fn hold(&mut self, line: u32, words: u64) {
-        let words = words.saturating_add(self.words.all());
-        if let Some(counted) = self.counted.get_mut(self.place) {
-            counted.hold(line, words);
-        }
+    /// So many rows and `PAR`s.
+    fn see_rows(&mut self, line: u32, rows: u64, pars: u64, peaks: Peaks) {
+        let rows = Amounts::rows(rows, self.nesting.here().variables);
+        self.add(line, Amounts { pars, ..rows }, peaks, 0);
     }
 
-    /// An instance of this procedure, which takes and exceeds what the procedure does. It has a row of its own.
-    fn see_instance(&mut self, line: u32, number: u32) {
+    /// A process begins on this line.
+    fn see_process(&mut self, line: u32, depth: Depth) {
+        self.depth = depth;
+        self.nesting.leave(depth.processes);
+        let peaks = Peaks {
+            processes: self.deep(depth.processes),
+            nesting: depth.pars,
+            ..Peaks::NOTHING
+        };
+        self.add(line, Amounts::NOTHING, peaks, PROCESS_STEPS);
+    }
+
+    /// So many processes in one another, if their number is bounded.
+    fn deep(&self, processes: u64) -> u64 {
+        if self.is_sequential { 0 } else { processes }
+    }
+
+    /// An instance of this procedure, with so many actuals: it takes and exceeds what the procedure does, and has a row
+    /// of its own.
+    fn see_instance(&mut self, line: u32, number: u32, actuals: usize) {
         let called = self.counted.get(number as usize + 1).copied();
         let called = called.unwrap_or(Counted::NOTHING);
-        self.add(called.excess);
-        self.grow(line, called.rows.saturating_add(1), called.pars);
-        self.turn(line, called.turns);
-        self.hold(line, called.words);
+        let here = self.nesting.here();
+        let passing = (actuals as u64).saturating_mul(PASSING_STEPS);
+        let lending = called.names.saturating_mul(LENDING_STEPS);
+        // Its rows say what is known here too.
+        let rows = called.amounts.rows.saturating_add(1);
+        let amounts = called.amounts.plus(Amounts {
+            rows: 1,
+            entries: rows.saturating_mul(here.variables),
+            ..Amounts::work(passing.saturating_add(lending))
+        });
+        let deeper = INSTANCE_DEPTH.saturating_add(called.peaks.processes);
+        let peaks = Peaks {
+            words: here.words.saturating_add(called.peaks.words),
+            turns: here.turns.saturating_mul(called.peaks.turns),
+            processes: self.deep(self.depth.processes.saturating_add(deeper)),
+            nesting: self.depth.pars.saturating_add(called.peaks.nesting),
+        };
+        self.note(called.excess);
+        self.add(line, amounts, peaks, 0);
     }
 
     fn see_action(&mut self, scope: &Scope, line: u32, action: &Action) {
-        if let Action::Stop = action {
-            self.grow(line, 1, 0);
+        self.see_line(
+            line,
+            size_of_action(action),
+            reading_of_action(action),
+            bytes_of(action),
+        );
+        match action {
+            Action::Stop => self.see_rows(line, 1, 0, Peaks::NOTHING),
+            Action::Instance { name, actuals } => {
+                if let Some(Meaning::Proc(number)) = scope.meaning(name) {
+                    self.see_instance(line, number, actuals.len());
+                }
+            }
+            Action::Skip | Action::Assign { .. } | Action::Input { .. } | Action::Output { .. } =>
+                {}
         }
-        if let Action::Instance { name, .. } = action
-            && let Some(Meaning::Proc(number)) = scope.meaning(name)
-        {
-            self.see_instance(line, number);
+    }
+
+    /// A condition that is tested: what is known to hold may have no test.
+    fn see_condition(&mut self, scope: &Scope, line: u32, condition: &Expr) {
+        if is_tested(scope, condition) {
+            let reading = reading_of_condition(condition);
+            self.see_line(line, size_of_condition(condition), reading, 0);
         }
+    }
+
+    fn see_guard(&mut self, line: u32, guard: &Guard) {
+        self.see_line(line, size_of_guard(guard), reading_of_guard(guard), 0);
     }
 
     /// What a constant denotes.
     fn see_value(&mut self, line: u32, value: &ConstantValue) {
         self.items = self.items.saturating_add(items_of(value));
-        self.note(line, Limit::Items, self.items);
+        self.count(line, Limit::Items, self.items);
     }
 
     /// Names that are declared, each with so many words.
-    fn see_names(&mut self, scope: &Scope, names: &Names, words: u64) {
-        let count = names.names.others.len() as u64 + 1;
-        let words = words.saturating_mul(count);
-        self.complete &= self.words.hold(scope.len(), words).is_ok();
-        self.hold(names.line, 0);
+    fn see_names(&mut self, names: &Names, words: u64, variables: u64) {
+        let words = words.saturating_mul(names_of(names));
+        let around = self.nesting.here().with_names(words, variables);
+        self.complete &= self.nesting.enter(self.depth.processes, around).is_ok();
+        let peaks = Peaks {
+            words: around.words,
+            ..Peaks::NOTHING
+        };
+        self.add(names.line, Amounts::NOTHING, peaks, 0);
     }
 
-    fn see_declaration(&mut self, scope: &Scope, declaration: &Declaration) {
+    fn see_declaration(&mut self, scope: &Scope, line: u32, declaration: &Declaration) {
+        self.see_line(line, size_of_declaration(declaration), 0, 0);
         match declaration {
-            Declaration::Constant(constant) => self.see_value(constant.line, &constant.value),
+            Declaration::Constant(constant) => self.see_value(line, &constant.value),
             Declaration::Variables(names) => {
-                self.see_names(scope, names, words_of(scope, names.value_type, &names.size));
+                let words = words_of(scope, names.value_type, &names.size);
+                self.see_names(names, words, names_of(names));
             }
             Declaration::Channels(names) => {
-                self.see_names(scope, names, words_of(scope, ValueType::Int, &names.size));
+                self.see_names(names, words_of(scope, ValueType::Int, &names.size), 0);
             }
         }
     }
 
-    /// An item, where the words of all procedures before are free.
-    fn see_item(&mut self, line: u32, item: &Item) {
-        self.words.leave(0);
+    /// An item, before which a scope has so many names.
+    fn see_item(&mut self, scope: &Scope, line: u32, item: &Item) {
+        self.nesting.leave(0);
+        self.depth = Depth::OUTSIDE;
         match item {
             Item::Constant(constant) => {
                 self.place = 0;
@@ -183,7 +220,11 @@ impl Counts {
             }
             Item::Proc(_) => {
                 self.place = self.counted.len();
-                self.complete &= self.counted.push(Counted::NOTHING).is_ok();
+                let counted = Counted {
+                    names: scope.len() as u64,
+                    ..Counted::NOTHING
+                };
+                self.complete &= self.counted.push(counted).is_ok();
             }
         }
     }
@@ -191,57 +232,72 @@ impl Counts {
     fn see_construct(&mut self, line: u32, construct: &Construct) {
         match construct {
             Construct::Par(processes) => {
-                self.note(line, Limit::Components, processes.len() as u64);
+                self.count(line, Limit::Components, processes.len() as u64);
+                let around = self.nesting.here().with_searches(1);
+                self.complete &= self.nesting.enter(self.depth.processes, around).is_ok();
             }
-            Construct::Alt(branches) => self.note(line, Limit::Guards, branches.len() as u64),
+            Construct::Alt(branches) => {
+                self.count(line, Limit::Guards, branches.len() as u64);
+            }
             Construct::Action(_)
             | Construct::Seq(_)
             | Construct::If(_)
             | Construct::Replicated { .. } => {}
         }
-        self.grow(line, rows_of(construct), pars_of(construct));
+        self.see_rows(line, rows_of(construct), pars_of(construct), Peaks::NOTHING);
     }
 
     /// A body under a replicator begins.
     fn see_turns(&mut self, scope: &Scope, line: u32, replicator: &Replicator, body: &Body) {
         let count = count_of(scope, &replicator.count);
+        let around = self.nesting.here().in_turns(body, count);
+        let mut peaks = Peaks::NOTHING;
         match body {
-            Body::Seq(_) => self.turn(line, count),
-            Body::Par(_) => self.note(line, Limit::Components, count),
-            Body::If(_) => self.note(line, Limit::Turns, count),
-            Body::Alt(_) => self.note(line, Limit::Guards, count),
+            Body::Seq(_) => peaks.turns = around.turns,
+            Body::Par(_) => self.count(line, Limit::Components, count),
+            Body::If(_) => self.count(line, Limit::Turns, count),
+            Body::Alt(_) => self.count(line, Limit::Guards, count),
         }
-        self.grow(line, rows_of_turns(body, count), pars_of_turns(body, count));
-        let times = times_of(body, count);
-        self.complete &= self.repeating.enter(scope.len(), times).is_ok();
+        let rows = rows_of_turns(body, count);
+        self.see_rows(line, rows, pars_of_turns(body, count), peaks);
+        self.complete &= self.nesting.enter(self.depth.processes, around).is_ok();
     }
 }
 
 impl Visitor for Counts {
     fn visit(&mut self, scope: &Scope<'_>, line: u32, part: Part<'_, '_>) {
-        self.words.leave(scope.len());
-        self.repeating.leave(scope.len());
         match part {
-            Part::Item(item) => self.see_item(line, item),
-            Part::Declaration(declaration) => self.see_declaration(scope, declaration),
+            Part::Item(item) => self.see_item(scope, line, item),
+            Part::Process(depth) => self.see_process(line, depth),
+            Part::Declaration(declaration) => self.see_declaration(scope, line, declaration),
             Part::Construct(construct) => self.see_construct(line, construct),
             Part::Turns(replicator, body) => self.see_turns(scope, line, replicator, body),
             Part::Action(action) => self.see_action(scope, line, action),
-            Part::Condition(_) | Part::Guard(_) => {}
+            Part::Condition(condition) => self.see_condition(scope, line, condition),
+            Part::Guard(guard) => self.see_guard(line, guard),
         }
     }
 }
 
+/// Whether the last of some items is a sequential procedure.
+fn ends_sequential(items: &[Item]) -> bool {
+    match items.last() {
+        Some(Item::Proc(main)) => is_sequential(&main.body),
+        _ => false,
+    }
+}
+
 /// The first limit that a program is above, if its source shows one: its constants do, or `main`, the last procedure, with
-/// what it calls. That a program which is refused for a limit is above this one is claimed by no contract: the bytes of its
-/// code are not counted, and of its rows those that it surely has.
+/// what it calls. That a program which is refused for a limit is above this one is claimed by no contract: of what it
+/// becomes that is counted which there surely is.
 pub fn limit_excess(alloc: Global, items: &[Item]) -> Result<Option<Excess>, AllocError> {
     let mut counts = Counts {
-        words: Words::new(alloc),
+        nesting: Nesting::new(alloc),
+        depth: Depth::OUTSIDE,
         items: 0,
-        repeating: Repeating::new(alloc),
         counted: Vec::new(alloc),
         place: 0,
+        is_sequential: ends_sequential(items),
         complete: true,
     };
     counts.counted.push(Counted::NOTHING)?;

@@ -1,56 +1,8 @@
-//! The words of names, and the items of constants.
+//! What a line takes: the words of names, the items of constants, and the bytes of actions.
 
-use occam_parser::{ConstantValue, Expr, ValueType};
+use occam_parser::{Action, ConstantValue, Expr, Names, ValueType};
 use program_uses::size_in;
 use scalar_ranges::Scope;
-use std::alloc::{AllocError, Global};
-
-/// Words that are held by names as long as a scope has more names than this.
-#[derive(Clone, Copy)]
-struct Held {
-    names: usize,
-    words: u64,
-}
-
-/// The words of all names that are in scope.
-#[derive(Drop)]
-pub(crate) struct Words {
-    held: Vec<Held>,
-    all: u64,
-}
-
-impl Words {
-    /// No name is in scope.
-    pub(crate) fn new(alloc: Global) -> Words {
-        Words {
-            held: Vec::new(alloc),
-            all: 0,
-        }
-    }
-
-    /// How many there are.
-    pub(crate) fn all(&self) -> u64 {
-        self.all
-    }
-
-    /// What a scope no longer has that has this many names.
-    pub(crate) fn leave(&mut self, names: usize) {
-        for _ in 0..self.held.len() {
-            match self.held.last() {
-                Some(held) if held.names >= names => self.all = self.all.saturating_sub(held.words),
-                _ => return,
-            }
-            self.held.pop();
-        }
-    }
-
-    /// Names with so many words, declared where a scope has this many names.
-    pub(crate) fn hold(&mut self, names: usize, words: u64) -> Result<(), AllocError> {
-        self.all = self.all.saturating_add(words);
-        self.held.push(Held { names, words })?;
-        Ok(())
-    }
-}
 
 /// How many words a variable or a channel has, or an array of them.
 pub(crate) fn words_of(scope: &Scope, value_type: ValueType, size: &Option<Expr>) -> u64 {
@@ -68,5 +20,20 @@ pub(crate) fn items_of(value: &ConstantValue) -> u64 {
         ConstantValue::Scalar(_) => 0,
         ConstantValue::Table { items, .. } => items.others.len() as u64 + 1,
         ConstantValue::Text { text, .. } => text.len() as u64,
+    }
+}
+
+/// How many names a line declares.
+pub(crate) fn names_of(names: &Names) -> u64 {
+    (names.names.others.len() as u64).saturating_add(1)
+}
+
+/// How many bytes of code an action has at least: what is stored or sent is pushed before.
+pub(crate) fn bytes_of(action: &Action) -> u64 {
+    match action {
+        Action::Skip | Action::Instance { .. } => 0,
+        Action::Stop => 2,
+        Action::Assign { .. } => 2,
+        Action::Input { .. } | Action::Output { .. } => 4,
     }
 }

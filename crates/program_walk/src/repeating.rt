@@ -1,79 +1,8 @@
-//! How often the parts of a program are written and done, and the rows that they surely have.
+//! What constructs surely are: how often their parts are written, their rows and `PAR`s.
 
 use occam_parser::{Body, Construct, Expr};
 use program_uses::value_as;
 use scalar_ranges::{ExprType, Scope};
-use std::alloc::{AllocError, Global};
-
-/// How often a part is written, and in how many turns of loops it is done.
-#[derive(Clone, Copy)]
-pub(crate) struct Times {
-    pub(crate) written: u64,
-    pub(crate) turns: u64,
-}
-
-impl Times {
-    const ONCE: Times = Times {
-        written: 1,
-        turns: 1,
-    };
-
-    /// These times of so many.
-    fn of(self, outer: Times) -> Times {
-        Times {
-            written: self.written.saturating_mul(outer.written),
-            turns: self.turns.saturating_mul(outer.turns),
-        }
-    }
-}
-
-/// A body under a replicator, which is there as long as a scope has more names than this.
-#[derive(Clone, Copy)]
-struct Repeated {
-    names: usize,
-    times: Times,
-}
-
-/// The bodies under replicators that are around a place.
-#[derive(Drop)]
-pub(crate) struct Repeating {
-    around: Vec<Repeated>,
-}
-
-impl Repeating {
-    /// None is.
-    pub(crate) fn new(alloc: Global) -> Repeating {
-        Repeating {
-            around: Vec::new(alloc),
-        }
-    }
-
-    /// Those of a part that stands here.
-    pub(crate) fn times(&self) -> Times {
-        match self.around.last() {
-            Some(body) => body.times,
-            None => Times::ONCE,
-        }
-    }
-
-    /// Those end that began where a scope had as many names as this, or more.
-    pub(crate) fn leave(&mut self, names: usize) {
-        for _ in 0..self.around.len() {
-            match self.around.last() {
-                Some(body) if body.names >= names => {}
-                _ => return,
-            }
-            self.around.pop();
-        }
-    }
-
-    /// A body begins, with one name more than the scope around it.
-    pub(crate) fn enter(&mut self, names: usize, times: Times) -> Result<(), AllocError> {
-        let times = times.of(self.times());
-        self.around.push(Repeated { names, times })?;
-        Ok(())
-    }
-}
 
 /// A count under a replicator.
 pub(crate) fn count_of(scope: &Scope, count: &Expr) -> u64 {
@@ -83,18 +12,9 @@ pub(crate) fn count_of(scope: &Scope, count: &Expr) -> u64 {
     }
 }
 
-/// Those of a body under a replicator where it stands: that of a loop is written once, if it has turns.
-pub(crate) fn times_of(body: &Body, count: u64) -> Times {
-    match body {
-        Body::Seq(_) => Times {
-            written: count.min(1),
-            turns: count,
-        },
-        Body::Par(_) | Body::If(_) | Body::Alt(_) => Times {
-            written: count,
-            turns: 1,
-        },
-    }
+/// Whether a condition is tested for sure: one that is known may be TRUE.
+pub(crate) fn is_tested(scope: &Scope, condition: &Expr) -> bool {
+    value_as(scope, ExprType::Condition, condition).is_none()
 }
 
 /// The rows that a construct surely has beside those of what is in it: one for its end, one for each branch, and one

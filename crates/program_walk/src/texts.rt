@@ -33,7 +33,19 @@ fn push_limit(text: &mut String, limit: Limit, count: u64) -> Result<(), AllocEr
             text,
             "the constructs and instances up to here take {count} rows or more; 8192 are possible"
         ),
+        Limit::Entries => write!(
+            text,
+            "the rows up to here have {count} entries or more; 4194304 are possible"
+        ),
         Limit::Pars => write!(text, "there are {count} PARs up to here; 1024 are possible"),
+        Limit::Nesting => write!(
+            text,
+            "{count} PARs are within one another here; 64 are possible"
+        ),
+        Limit::Processes => write!(
+            text,
+            "{count} processes are within one another here; 2048 are possible"
+        ),
         Limit::Steps => write!(
             text,
             "the loops here take {count} steps or more; 4611686018427387904 are possible"
@@ -41,6 +53,18 @@ fn push_limit(text: &mut String, limit: Limit, count: u64) -> Result<(), AllocEr
         Limit::Bytes => write!(
             text,
             "the code up to here takes {count} bytes or more; 262143 are possible"
+        ),
+        Limit::Tables => write!(
+            text,
+            "the code up to here reads {count} tables; 1024 are possible"
+        ),
+        Limit::Size => write!(
+            text,
+            "the lines up to here, those of each instance again, have a size of {count} or more; 8388608 is possible"
+        ),
+        Limit::Work => write!(
+            text,
+            "writing the code up to here takes {count} steps or more; 400000000 are possible"
         ),
     }
 }

@@ -1,6 +1,7 @@
 //! The walk over a program.
 
-use crate::parts::{Part, Visitor};
+use crate::parts::{Depth, Part, Visitor};
+use loop_scopes::begin_loop;
 use occam_parser::{
     Action, Body, Branch, Choice, Constant, Construct, Declaration, Guard, Item, OneOrMore, Proc,
     Process, Replicator,
@@ -20,6 +21,7 @@ struct Walk<'a> {
     scope: Scope<'a>,
     /// What is known of the procedures before, but for the ends of channels that they use.
     signatures: Vec<Signature>,
+    depth: Depth,
     /// Whether memory was enough.
     complete: bool,
 }
@@ -110,7 +112,7 @@ impl<'a> Walk<'a> {
             body,
         );
         match changed {
-            Ok(numbers) => self.complete &= self.scope.begin_loop(&numbers).is_ok(),
+            Ok(numbers) => self.complete &= begin_loop(&mut self.scope, &numbers).is_ok(),
             Err(_) => self.complete = false,
         }
     }
@@ -127,8 +129,12 @@ impl<'a> Walk<'a> {
     /// A process, with what it declares.
     #[cycle(walk)]
     fn process<V: Visitor>(&mut self, visitor: &mut V, process: &Process<'a>) {
+        let outside = self.depth;
+        self.depth.processes = outside.processes.saturating_add(1);
+        visitor.visit(&self.scope, process.line, Part::Process(self.depth));
         self.declarations(visitor, &process.declarations);
         self.construct(visitor, process.line, &process.construct);
+        self.depth = outside;
     }
 
     /// A construct that begins on this line.
@@ -183,7 +189,10 @@ impl<'a> Walk<'a> {
     #[cycle(walk)]
     fn component<V: Visitor>(&mut self, visitor: &mut V, process: &Process<'a>) {
         let changed = variables_changed(self.alloc, &self.signatures, &mut self.scope, process);
+        let outside = self.depth;
+        self.depth.pars = outside.pars.saturating_add(1);
         self.process(visitor, process);
+        self.depth = outside;
         match changed {
             Ok(numbers) => self.scope.next_component(&numbers),
             Err(_) => self.complete = false,
@@ -277,6 +286,7 @@ pub(crate) fn walk_program<V: Visitor>(
         alloc,
         scope: Scope::new(alloc),
         signatures: Vec::new(alloc),
+        depth: Depth::OUTSIDE,
         complete: true,
     };
     for item in items {

@@ -40,7 +40,7 @@ pub fn shown_byte(byte: u8) -> u8
 }
 
 /// Appends bytes of a line as they are shown.
-fn push_bytes(text: &mut String, bytes: &[u8]) -> Result<(), AllocError>
+pub fn push_bytes(text: &mut String, bytes: &[u8]) -> Result<(), AllocError>
     ensures { OnOk result (string_bytes text.new ≡ string_bytes text.old ++ map shown_byte bytes.now) }
 {
     for byte in bytes {

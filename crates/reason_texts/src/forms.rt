@@ -16,7 +16,7 @@ use occam_parser::MAX_NESTING;
 
 /// What a line has to be, by the lines above it.
 #[derive(Clone, Copy)]
-pub enum Form {
+pub(crate) enum Form {
     /// A constant, or the head of a procedure.
     Item,
     /// The `:` that ends a procedure.

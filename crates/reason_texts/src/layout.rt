@@ -14,7 +14,7 @@ use occam_layout::{MAX_BYTES, MAX_LINES};
 
 /// Why a line has no tokens, or a source no lines. What is said of bytes is said by their offsets in the line.
 #[derive(Clone, Copy)]
-pub enum LayoutReason {
+pub(crate) enum LayoutReason {
     /// The line begins with this odd number of spaces.
     OddIndentation { spaces: usize },
     /// The line is at this level, more than one deeper than the line above it, or the first one and not at level 0.
@@ -88,7 +88,7 @@ fn reason_at(source: &[u8], line: u32) -> Option<LayoutReason>
 /// Why a source has no lines of tokens, where [`lines`](occam_layout::lines) reports a fault at this line.
 ///
 /// It is `None` if the source has no line of this number, or one that is not at fault, as where memory ran out.
-pub fn layout_reason(source: &[u8], line: u32) -> Option<LayoutReason>
+pub(crate) fn layout_reason(source: &[u8], line: u32) -> Option<LayoutReason>
     // What is wrong with the line.
     ensures exact { result ≡ layout_reason source.now line }
     // The place is in the line.

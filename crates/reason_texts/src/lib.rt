@@ -18,13 +18,9 @@ mod stuck;
 mod tokens;
 
 pub use block::{
-    Span, closing_quote, meant, push_block, push_hint, push_number, push_place, shown_byte,
+    Span, closing_quote, meant, push_block, push_bytes, push_hint, push_number, push_place,
+    shown_byte,
 };
-pub use forms::Form;
-pub use layout::{LayoutReason, layout_reason};
 pub use layout_texts::layout_text;
-pub use lines::{Above, SourceLine, find_line};
-pub use parse::{ParseReason, parse_reason};
+pub use lines::{Above, SourceLine, find_line, first_line};
 pub use parse_texts::{line_of, line_span, parse_text};
-pub use stuck::{Lack, Stuck, Wanted};
-pub use tokens::{BadToken, TokenFault};

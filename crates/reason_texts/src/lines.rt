@@ -35,7 +35,7 @@ pub(crate) fn is_blank(body: &[u8]) -> bool
 }
 
 /// The first line of a text that isn't empty, and what follows the line feed that ends it.
-fn first_line(text: &[u8]) -> (&[u8], &[u8])
+pub fn first_line(text: &[u8]) -> (&[u8], &[u8])
     requires { 0 < length text.now }
     ensures parts { lines_of text.now ≡ result.0.now ∷ lines_of result.1.now }
     ensures within { length result.0.now + length result.1.now ≤ length text.now }

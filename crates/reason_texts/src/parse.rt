@@ -15,7 +15,7 @@ use occam_parser::{MAX_LEVEL, MISSING_BODY, MIXTURE, NESTING, ParseFault, UNEXPE
 
 /// Why lines are no program, by the line at fault.
 #[derive(Clone, Copy)]
-pub enum ParseReason {
+pub(crate) enum ParseReason {
     /// The line has to be of this form, and goes on otherwise at a place.
     Form { form: Form, stuck: Stuck },
     /// The line is below another one, with this number, which nothing is below.
@@ -94,7 +94,7 @@ fn of_number(number: u8, reason: Option<ParseReason>) -> Option<ParseReason>
 /// A missing body is its own reason. Of another fault there is none if no line has its number, as where memory ran out,
 /// or if that line is not at fault in this way.
 #[tactic(auto, unfolding(crate::specs::ParseReasons::parse_reason))]
-pub fn parse_reason(lines: &[Line<'_>], fault: ParseFault) -> Option<ParseReason>
+pub(crate) fn parse_reason(lines: &[Line<'_>], fault: ParseFault) -> Option<ParseReason>
     // What is wrong with the line at fault.
     ensures exact { result ≡ parse_reason (rows_of lines.now) fault }
     // The reason is of the fault's number.

@@ -9,7 +9,7 @@ use occam_layout::{Mark, Token, TokenKind};
 
 /// What a line may have at a place.
 #[derive(Clone, Copy)]
-pub enum Wanted {
+pub(crate) enum Wanted {
     /// A keyword or a sign.
     Mark(Mark),
     /// A name.
@@ -34,7 +34,7 @@ pub enum Wanted {
 
 /// What is wrong at a place of a line.
 #[derive(Clone, Copy)]
-pub enum Lack {
+pub(crate) enum Lack {
     /// Something else is wanted there.
     Token(Wanted),
     /// Brackets, subscripts and conversions are nested too deep there.
@@ -45,7 +45,7 @@ pub enum Lack {
 
 /// A place of a line, and what is wrong there.
 #[derive(Clone, Copy)]
-pub struct Stuck {
+pub(crate) struct Stuck {
     /// How many tokens of the line are left from the place on. 0 at the end of the line.
     pub left: usize,
     /// What is wrong.

@@ -12,7 +12,7 @@ use crate::quotes::{body_len, characters_in};
 
 /// What is wrong where a token should begin.
 #[derive(Clone, Copy)]
-pub enum TokenFault {
+pub(crate) enum TokenFault {
     /// No token begins with this byte.
     NoToken,
     /// Decimal digits spell a number above the greatest INT.
@@ -29,7 +29,7 @@ pub enum TokenFault {
 
 /// What is wrong where a token should begin, and the bytes that are meant.
 #[derive(Clone, Copy)]
-pub struct BadToken {
+pub(crate) struct BadToken {
     /// How many bytes are before them.
     pub at: usize,
     /// How many they are.

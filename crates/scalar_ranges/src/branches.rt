@@ -2,10 +2,10 @@
 
 ghost use Rattle.std.specs.Prelude.{◌≡◌, OnOk, OnErr};
 ghost use Rattle.occam_parser.specs.Views.{expression_of};
-ghost use Rattle.scalar_ranges.specs.Moves.{begin, begin_par, begin_loop, widen, exclude, next, next_component};
+ghost use Rattle.scalar_ranges.specs.Moves.{begin, begin_par, exclude, next, next_component};
 ghost use Rattle.scalar_ranges.specs.Moves.{end};
 ghost use Rattle.scalar_ranges.specs.Changes.{begin_with};
-ghost use Rattle.scalar_ranges.specs.Scopes.{entries_of, blocks_of, known_of};
+ghost use Rattle.scalar_ranges.specs.Scopes.{known_of};
 
 use crate::narrowing::{as_holds, test_of};
 use crate::scope::Scope;
@@ -39,17 +39,6 @@ impl Scope<'_> {
         ensures err { OnErr result (known_of self.new ≡ known_of self.old) }
     {
         self.known.begin(self.alloc, ended)
-    }
-
-    /// The body of a replicated `SEQ` begins, which changes the variables with these numbers. It ends with
-    /// [`end`](Scope::end). If memory runs out, only these variables have lost their ranges.
-    pub fn begin_loop(&mut self, numbers: &[usize]) -> Result<(), AllocError>
-        ensures ok { OnOk result (known_of self.new ≡ begin_loop numbers.now (known_of self.old)) }
-        ensures entries { OnErr result (entries_of self.new ≡ widen numbers.now (entries_of self.old)) }
-        ensures blocks { OnErr result (blocks_of self.new ≡ blocks_of self.old) }
-    {
-        self.widen(numbers);
-        self.begin()
     }
 
     /// A branch ends, and the next one begins as the first one did. It takes no memory.

@@ -26,6 +26,7 @@ ghost use Rattle.usage_checks.specs.HavingLists.{HasTurn};
 use crate::channel_rules::Position;
 use crate::line_rules::fault_of_replicator;
 use crate::telling::Findings;
+use loop_scopes::begin_loop;
 use occam_parser::{Action, Body, Branch, Choice, Construct, Process, Replicator};
 use program_uses::{
     Around, ChangeLists, is_before, is_sequence, repeats_of, variables_changed,
@@ -154,7 +155,7 @@ impl Findings {
     fn begin_widened(&mut self, scope: &mut Scope, numbers: &[usize])
         ensures { Walks self.old self.new (known_of scope.new) (begin_loop numbers.now (known_of scope.old)) (λ f. ⊥) }
     {
-        match scope.begin_loop(numbers) {
+        match begin_loop(scope, numbers) {
             Ok(()) => {}
             Err(_) => self.fail(),
         }

@@ -3,6 +3,7 @@
 use crate::site::Part;
 use crate::tokens::{plus, width_of};
 use crate::walk::Walk;
+use loop_scopes::begin_loop;
 use occam_parser::{
     Body, Branch, Choice, Constant, Construct, Declaration, Expr, Guard, Names, Process, Replicator,
 };
@@ -209,7 +210,7 @@ impl<'a> Walk<'_, 'a> {
             Body::Seq(_) => {
                 let (alloc, signatures) = (self.alloc, &self.signatures);
                 match variables_changed_in(alloc, signatures, &mut self.scope, replicator, body) {
-                    Ok(numbers) => self.scope.begin_loop(&numbers).is_ok(),
+                    Ok(numbers) => begin_loop(&mut self.scope, &numbers).is_ok(),
                     Err(_) => false,
                 }
             }

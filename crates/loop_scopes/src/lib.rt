@@ -1,0 +1,6 @@
+//! What is known where the body of a loop begins.
+#![tactic(auto)]
+
+mod loops;
+
+pub use loops::begin_loop;

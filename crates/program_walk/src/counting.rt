@@ -1,0 +1,168 @@
+//! What is counted of a procedure, each instance with all that is in its procedure.
+
+use crate::excess::{Excess, Limit};
+
+/// The least number of steps that a turn of a loop takes: the instruction that ends it takes four.
+const STEPS_OF_TURN: u64 = 4;
+
+/// What adds up from line to line.
+#[derive(Clone, Copy)]
+pub(crate) struct Amounts {
+    pub(crate) rows: u64,
+    /// The entries of these rows.
+    pub(crate) entries: u64,
+    pub(crate) pars: u64,
+    /// The bytes of the code.
+    pub(crate) bytes: u64,
+    /// The sizes of the lines.
+    pub(crate) size: u64,
+    /// The steps of work beside writing.
+    pub(crate) work: u64,
+}
+
+impl Amounts {
+    pub(crate) const NOTHING: Amounts = Amounts {
+        rows: 0,
+        entries: 0,
+        pars: 0,
+        bytes: 0,
+        size: 0,
+        work: 0,
+    };
+
+    /// So much work.
+    pub(crate) fn work(work: u64) -> Amounts {
+        Amounts {
+            work,
+            ..Amounts::NOTHING
+        }
+    }
+
+    /// So many rows, each with as many entries, which are looked at.
+    pub(crate) fn rows(rows: u64, entries: u64) -> Amounts {
+        let all = rows.saturating_mul(entries);
+        Amounts {
+            rows,
+            entries: all,
+            work: all,
+            ..Amounts::NOTHING
+        }
+    }
+
+    /// Both.
+    pub(crate) fn plus(self, more: Amounts) -> Amounts {
+        Amounts {
+            rows: self.rows.saturating_add(more.rows),
+            entries: self.entries.saturating_add(more.entries),
+            pars: self.pars.saturating_add(more.pars),
+            bytes: self.bytes.saturating_add(more.bytes),
+            size: self.size.saturating_add(more.size),
+            work: self.work.saturating_add(more.work),
+        }
+    }
+
+    /// So often.
+    pub(crate) fn times(self, times: u64) -> Amounts {
+        Amounts {
+            rows: self.rows.saturating_mul(times),
+            entries: self.entries.saturating_mul(times),
+            pars: self.pars.saturating_mul(times),
+            bytes: self.bytes.saturating_mul(times),
+            size: self.size.saturating_mul(times),
+            work: self.work.saturating_mul(times),
+        }
+    }
+}
+
+/// The most that there is at one place.
+#[derive(Clone, Copy)]
+pub(crate) struct Peaks {
+    /// The words of variables.
+    pub(crate) words: u64,
+    /// The turns of a loop, with those around it.
+    pub(crate) turns: u64,
+    /// The processes in one another.
+    pub(crate) processes: u64,
+    /// The `PAR`s in one another.
+    pub(crate) nesting: u64,
+}
+
+impl Peaks {
+    pub(crate) const NOTHING: Peaks = Peaks {
+        words: 0,
+        turns: 0,
+        processes: 0,
+        nesting: 0,
+    };
+
+    /// The greater of each.
+    fn or(self, other: Peaks) -> Peaks {
+        Peaks {
+            words: self.words.max(other.words),
+            turns: self.turns.max(other.turns),
+            processes: self.processes.max(other.processes),
+            nesting: self.nesting.max(other.nesting),
+        }
+    }
+}
+
+/// What was counted of a procedure, or of the constants of a program.
+#[derive(Clone, Copy)]
+pub(crate) struct Counted {
+    pub(crate) amounts: Amounts,
+    pub(crate) peaks: Peaks,
+    /// How many names are known before it.
+    pub(crate) names: u64,
+    /// The first limit that is exceeded.
+    pub(crate) excess: Option<Excess>,
+}
+
+/// The excess on the earlier line.
+pub(crate) fn earlier(first: Option<Excess>, second: Option<Excess>) -> Option<Excess> {
+    match (first, second) {
+        (Some(one), Some(other)) if one.line <= other.line => first,
+        (_, None) => first,
+        _ => second,
+    }
+}
+
+impl Counted {
+    pub(crate) const NOTHING: Counted = Counted {
+        amounts: Amounts::NOTHING,
+        peaks: Peaks::NOTHING,
+        names: 0,
+        excess: None,
+    };
+
+    /// A limit that is exceeded, if one is: the first one counts.
+    pub(crate) fn note(&mut self, excess: Option<Excess>) {
+        self.excess = earlier(self.excess, excess);
+    }
+
+    /// This comes with a line.
+    pub(crate) fn add(&mut self, line: u32, amounts: Amounts, peaks: Peaks) {
+        self.amounts = self.amounts.plus(amounts);
+        self.peaks = self.peaks.or(peaks);
+        self.note(excess_in_all(line, self.amounts));
+        self.note(excess_at_place(line, peaks));
+    }
+}
+
+/// The first limit of sums that is exceeded on a line.
+fn excess_in_all(line: u32, all: Amounts) -> Option<Excess> {
+    Excess::of(line, Limit::Pars, all.pars)
+        .or(Excess::of(line, Limit::Rows, all.rows))
+        .or(Excess::of(line, Limit::Entries, all.entries))
+        .or(Excess::of(line, Limit::Bytes, all.bytes))
+        .or(Excess::of(line, Limit::Size, all.size))
+        .or(Excess::of(line, Limit::Work, all.work))
+}
+
+/// The first limit of what there is at one place that is exceeded on a line.
+fn excess_at_place(line: u32, peaks: Peaks) -> Option<Excess> {
+    let steps = peaks.turns.saturating_mul(STEPS_OF_TURN);
+    Excess::of(line, Limit::Words, peaks.words)
+        .or(Excess::of(line, Limit::Steps, steps))
+        .or(Excess::of(line, Limit::Processes, peaks.processes))
+        .or(Excess::of(line, Limit::Nesting, peaks.nesting))
+}
