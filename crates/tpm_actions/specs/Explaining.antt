@@ -1,5 +1,5 @@
 -- The explanation of the verdict on a module, of why a file is none, or of a source: our own choice.
-use Rattle.std.specs.Prelude.{◌≡◌, ◌⊎◌, ⊤, ℕ, ◌+◌, ◌==◌, nat_eq, Bool, false, ◌||◌, if◌then◌else◌, List, [], ◌∷◌, ◌++◌}
+use Rattle.std.specs.Prelude.{◌≡◌, ◌⊎◌, ⊤, ℕ, ◌+◌, ◌-◌, ◌^◌, min, ◌==◌, nat_eq, Bool, false, ◌||◌, if◌then◌else◌, List, [], ◌∷◌, ◌++◌}
 use Rattle.std.specs.Prelude.{codes, length, string_bytes}
 use Rattle.std.specs.List.{ends_with}
 use Rattle.std.specs.Fmt.{decimal}
@@ -20,7 +20,10 @@ use Rattle.tpm_actions.specs.declared.report.Failure.{Failure}
 use Rattle.tpm_actions.specs.declared.report.Failure.TheVariants as failures
 use Rattle.tpm_actions.specs.declared.report.RefusedFor.{RefusedFor}
 use Rattle.tpm_actions.specs.declared.report.RefusedFor.TheVariants as refused
+use Rattle.module_builder.specs.declared.fault.GenFault.TheVariants as generation
+use Rattle.program_walk.specs.Listings.{IsListing}
 use Rattle.compiler.specs.declared.source.CompileFault.{CompileFault}
+use Rattle.compiler.specs.declared.source.CompileFault.TheVariants as faults
 use Rattle.compiler.specs.CodeLines.{ends_in}
 use Rattle.compiler.specs.Compiled.{IsCompiled, IsRefusedFor}
 use Rattle.tpm_actions.specs.Compiling.{IsReason, IsRefusedAs}
@@ -64,14 +67,29 @@ is_ended source = length source == 0 || ends_with nat_eq source (10 ∷ [])
 abbrev pub line_count : List ℕ → ℕ
 line_count source = if is_ended source then ends_in source else ends_in source + 1
 
--- The text ends by saying that the source is correct.
+-- the number of the last line, as far as numbers of lines go
+abbrev pub last_line : List ℕ → ℕ
+last_line source = min (line_count source) (2 ^ 32 - 1)
+
+-- The text has the lines of the source, and ends by saying that it is correct.
 pub record EndsAsCorrect (source : List ℕ) (text : Text) : Type 0 where
   pub listing : Text
+  pub lists : IsListing source (last_line source) listing
   pub told : text ≡ listing ++ (codes "correct, " ++ (decimal (line_count source) ++ (codes " lines" ++ 10 ∷ [])))
 
--- The text ends with the reason for which a source is refused, if one is told.
+-- These are the lines of a source that are listed before this fault is told: none if they are no program.
+abbrev pub Lists : List ℕ → CompileFault → Text → Type 0
+Lists source (faults.Layout fault) listing = listing ≡ []
+Lists source (faults.Syntax fault) listing = listing ≡ []
+Lists source (faults.Usage fault) listing = IsListing source fault.line listing
+Lists source (faults.Generation generation.Memory) listing = listing ≡ []
+Lists source (faults.Generation generation.Limit) listing = IsListing source (last_line source) listing
+Lists source (faults.Generation generation.Invalid) listing = IsListing source (last_line source) listing
+
+-- The text has lines of the source, and ends with the reason for which it is refused, if one is told.
 pub record EndsWithReason (path : Text) (source : List ℕ) (fault : CompileFault) (text : Text) : Type 0 where
   pub listing : Text
+  pub lists : Lists source fault listing
   pub reason : Text
   pub is_reason : (reason ≡ []) ⊎ IsReason path source fault reason
   pub told : text ≡ listing ++ reason

@@ -4,7 +4,9 @@ ghost use Rattle.std.specs.Prelude.{◌≡◌, false, IfOk, MatchResult, string_
 ghost use Rattle.compiler.specs.Compiled.{IsRefusedFor};
 ghost use Rattle.tpm_actions.specs.Extents.{begins_as_module};
 ghost use Rattle.tpm_actions.specs.Explaining.{IsExplained, malformed_text, IsUnread, IsSourceExplained};
+ghost use Rattle.program_walk.specs.Listings.{IsListing};
 ghost use Rattle.tpm_actions.specs.Explaining.{WithholdsExplanation, EndsAsCorrect, EndsWithReason, is_ended, line_count, WithholdsSource};
+ghost use Rattle.tpm_actions.specs.Explaining.{Lists, last_line};
 
 use crate::refused::{RefusedSource, reason_text};
 use crate::report::{Failure, RefusedFor};
@@ -88,7 +90,9 @@ fn line_count(source: &[u8]) -> u128
 }
 
 /// The lines of a program up to one, with what is known on each. They were read before, so that only memory may run out.
-fn listed(alloc: Global, source: &[u8], last: u32) -> Result<String, AllocError> {
+fn listed(alloc: Global, source: &[u8], last: u32) -> Result<String, AllocError>
+    ensures { IfOk result (λ text. IsListing source.now last (string_bytes text)) }
+{
     let Ok(lines) = lines(alloc, source) else {
         return Err(AllocError);
     };
@@ -98,13 +102,17 @@ fn listed(alloc: Global, source: &[u8], last: u32) -> Result<String, AllocError>
     }
 }
 
-/// As many lines as a source has, of which the number is a `u32`.
-fn last_line(source: &[u8]) -> u32 {
-    u32::try_from(line_count(source)).unwrap_or(u32::MAX)
+/// As many lines as a source has, as far as numbers of lines go.
+fn last_line(source: &[u8]) -> u32
+    ensures { result ≡ last_line source.now }
+{
+    line_count(source).min(u128::from(u32::MAX)) as u32
 }
 
 /// The lines of a source that are listed before its fault is told: none if they are no program, or memory ran out.
-fn listed_before(alloc: Global, source: &[u8], fault: CompileFault) -> Result<String, AllocError> {
+fn listed_before(alloc: Global, source: &[u8], fault: CompileFault) -> Result<String, AllocError>
+    ensures { IfOk result (λ text. Lists source.now fault (string_bytes text)) }
+{
     match fault {
         CompileFault::Layout(_)
         | CompileFault::Syntax(_)
