@@ -1,6 +1,6 @@
 -- The label rows of a module: what the format says of their entries.
 use Rattle.std.proofs.Common.{◌≡◌, ℕ, ℤ, pos, ◌+ℤ◌, ◌≤ℤ◌, ◌<ℤ◌, Bool, true, false, cond, List, [], ◌∷◌, length}
-use Rattle.std.proofs.Common.{Option, Some, None, refl, sym, ap, ◌∙◌, subst, arith, inl, inr}
+use Rattle.std.proofs.Common.{Option, Some, None, refl, sym, ap, ◌∙◌, subst, arith, inl, inr, vec_len}
 use Rattle.std.specs.Prelude.{MatchOption, find, ◌==◌}
 use Rattle.std.specs.List.{AllByRecursion}
 use Rattle.std.proofs.lemmas.Bool.{cases_Bool, and_parts, and_from}
@@ -19,8 +19,10 @@ use Rattle.module_format.specs.Facts.{WordKeeps, EntryKeeps, behind_entry, end_o
 use Rattle.module_format.specs.Keeping.{Keeps, LabelFits, RowFits, EntryFits}
 use Rattle.states.specs.declared.known.WordFact.{WordFact}
 use Rattle.states.specs.declared.known.WordFact.TheVariants.{Alone}
-use Rattle.states.specs.State.{is_same_number, is_about, said_of, entry_fact}
-use Rattle.states.specs.Rows.{rise_from, LoopFits, IsRowOf}
+use Rattle.states.specs.declared.state.State.{State as InMemory}
+use Rattle.states.specs.State.{is_same_number, is_about, is_silent, said_of, entry_fact}
+use Rattle.states.specs.Rows.{rise_from, LoopFits, IsRow, IsRowOf}
+use Rattle.states.specs.Views.{BelongsTo}
 
 -- valid entries are apart
 pub entries-apart : (code_len : ℕ) (low : ℤ) (entries : List Entry)
@@ -107,3 +109,22 @@ row-found m at (row ∷ rows) t all h = elim (cases_Bool (row.offset == at)) [
 -- so does the label at an offset
 pub label_row_at : (m : Contents) (at : ℕ) (t : Label) → Keeps m → label_at m at ≡ Some t → IsRowOf m t
 label_row_at m at t k h = row-found m at m.labels t (label_rows m k) h
+
+-- the context of a label has each word of which the label says something
+own-word : (m : Contents) (t : Label) (k : ℤ) → IsRowOf m t → is_silent (entry_fact t.entries k) ≡ false
+    → has_word (context_at m t.context) k ≡ true
+own-word m t k row known = elim (cases_Bool (has_word (context_at m t.context) k)) [
+  | inl there ↦ there
+  | inr away ↦ absurd (let says = ap is_silent (row.own k away) in cc)
+]
+
+-- the row of a label is one of the frame of a state of its module
+pub row-inside : (m : Contents) (s : InMemory) (t : Label) → BelongsTo m s → IsRowOf m t
+    → IsRow s.frame.lo (vec_len s.frame.overlay.places) t.entries
+row-inside m s t belongs row = record {
+  apart = row.apart;
+  loops = row.loops;
+  inside = λ k known.
+      let room = (belongs.room t.context k (own-word m t k row known)).room in
+      (room.low, room.high);
+}

@@ -23,6 +23,7 @@ pub mod Decaying
 pub mod Dues
 pub mod Remembering
 pub mod Hulls
+mod Indices
 pub mod Claimed
 pub mod SaidWords
 pub mod KnownRuns

@@ -2,7 +2,7 @@
 #![tactic(auto, unfolding(crate::specs::Blocks::HaveRoom))]
 
 ghost use Rattle.std.specs.Prelude.{◌≡◌, ◌≤◌, ◌<◌, ◌≢◌, ◌-◌, ◌*◌, ◌/◌, ℕ, ℤ, pos, ◌+ℤ◌, ◌-ℤ◌, ◌≤ℤ◌, ◌<ℤ◌, ◌⊎◌, ◌^◌};
-ghost use Rattle.std.specs.Prelude.{IfOk, IsTrue};
+ghost use Rattle.std.specs.Prelude.{IfOk, IsTrue, MatchOption, negsuc};
 ghost use Rattle.std.specs.Prelude.{IsFalse, true, false, SomeIff, sum_by, length, Some, None, vec_len};
 ghost use Rattle.std.specs.List.{list_all};
 ghost use Rattle.module_format.specs.Contents.{procedure_of};
@@ -119,15 +119,25 @@ impl<'a> Frame<'a> {
         self.overlay.places.len()
     }
 
-    /// What was written to a word since the last label.
-    pub(crate) fn written(&self, word: i64) -> Option<Fact>
-        ensures { result ≡ fact_of_index self.now.overlay.written.items (word -ℤ self.now.lo) }
+    /// The index of a word, unless it comes before the frame.
+    #[inline(always)]
+    pub(crate) fn index_of(&self, word: i64) -> Option<usize>
+        ensures { MatchOption result ((n : ℕ) × (word -ℤ self.now.lo ≡ negsuc n))
+            (λ index. word -ℤ self.now.lo ≡ pos index) }
     {
         let lo = i64::from(self.lo);
         if word < lo {
             return None;
         }
-        self.overlay.get(word.abs_diff(lo) as usize)
+        Some(word.abs_diff(lo) as usize)
+    }
+
+    /// What was written to a word since the last label.
+    pub(crate) fn written(&self, word: i64) -> Option<Fact>
+        ensures { result ≡ fact_of_index self.now.overlay.written.items (word -ℤ self.now.lo) }
+    {
+        let index = self.index_of(word)?;
+        self.overlay.get(index)
     }
 
     /// What was written to a word, or else what the row says of it.
@@ -145,13 +155,8 @@ impl<'a> Frame<'a> {
     pub(crate) fn leaving(&self, word: i64) -> Option<Leaving>
         ensures { result ≡ leaving_at self.now.by_block.kept.items (word -ℤ self.now.lo) }
     {
-        let lo = i64::from(self.lo);
-        if word < lo {
-            return None;
-        }
-        self.by_block
-            .get(word.abs_diff(lo) as usize / block_words())
-            .left
+        let index = self.index_of(word)?;
+        self.by_block.get(index / block_words()).left
     }
 
     /// What is known of a word.

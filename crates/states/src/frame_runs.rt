@@ -155,16 +155,15 @@ impl Frame<'_> {
         ensures end { IfSome result
             (λ place. place.end ≡ first_of self.now.lo place.number +ℤ pos block_words) }
     {
-        let lo = i64::from(self.lo);
-        if word < lo || self.end() <= word {
+        let index = self.index_of(word)?;
+        if self.room() <= index {
             return None;
         }
-        let index = word.abs_diff(lo) as usize;
         let size = block_words();
         let number = index / size;
         Some(Place {
             number,
-            end: lo + (number * size + size) as i64,
+            end: i64::from(self.lo) + (number * size + size) as i64,
         })
     }
 

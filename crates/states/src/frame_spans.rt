@@ -20,11 +20,7 @@ impl Frame<'_> {
     pub(crate) fn block_from(&self, word: i64) -> Option<usize>
         ensures { IfSome result (λ number. (first_of self.now.lo number ≡ word) × (number < self.now.by_block.room)) }
     {
-        let lo = i64::from(self.lo);
-        if word < lo {
-            return None;
-        }
-        let index = word.abs_diff(lo) as usize;
+        let index = self.index_of(word)?;
         let size = block_words();
         if index % size != 0 || index / size >= self.by_block.room {
             return None;

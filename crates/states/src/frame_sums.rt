@@ -34,11 +34,8 @@ impl Frame<'_> {
     pub(crate) fn sum_of(&self, size: Size, word: i64) -> Option<Together>
         ensures { IfSome result (λ sum. sum ≡ together (frame_facts self.now) word (words_of size)) }
     {
-        let lo = i64::from(self.lo);
-        if word < lo {
-            return None;
-        }
-        let sum = self.sums.sum_at(size, word.abs_diff(lo) as usize)?;
+        let index = self.index_of(word)?;
+        let sum = self.sums.sum_at(size, index)?;
         Some(sum)
     }
 

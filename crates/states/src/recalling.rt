@@ -81,26 +81,21 @@ impl Frame<'_> {
         ensures { let changed = was_changed self.now.lo self.now.remembered in
             IsFalse result → changed self.now.remembered.time word ≡ changed time word }
     {
-        let lo = i64::from(self.lo);
-        if word < lo {
-            return false;
+        match self.index_of(word) {
+            Some(index) => self.remembered.firsts.is_changed_after(index, time),
+            None => false,
         }
-        self.remembered
-            .firsts
-            .is_changed_after(word.abs_diff(lo) as usize, time)
     }
 
     /// Whether a word was changed by a time, since the state became that of a label.
     fn was_changed(&self, word: i64, time: u64) -> bool
         ensures { result ≡ was_changed self.now.lo self.now.remembered time word }
     {
-        let lo = i64::from(self.lo);
-        if word < lo {
-            return false;
+        let remembered = &self.remembered;
+        match self.index_of(word) {
+            Some(index) => remembered.firsts.was_changed(remembered.began, index, time),
+            None => false,
         }
-        self.remembered
-            .firsts
-            .was_changed(self.remembered.began, word.abs_diff(lo) as usize, time)
     }
 
     /// Whether a word was by itself at a time: the label's row says so, or it was changed by then.

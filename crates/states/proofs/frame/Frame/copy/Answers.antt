@@ -1,10 +1,11 @@
-use Rattle.std.proofs.Common.{◌≡◌, List, ℕ, ap, sym, subst, ◌∙◌, pos, ◌+ℤ◌, ◌<ℤ◌, SFits, rules}
+use Rattle.std.proofs.Common.{◌≡◌, List, ℕ, ap, sym, subst, ◌∙◌, pos, ◌+ℤ◌, ◌≤ℤ◌, ◌<ℤ◌, ◌^◌, SFits, rules}
 use Rattle.std.proofs.lemmas.Int.{to_z-of_z}
 use Rattle.std.specs.Int.{w32}
 use Rattle.states.specs.declared.blocks.Block.{Block}
 use Rattle.states.specs.declared.frame.Frame.{Frame}
 use Rattle.states.specs.declared.overlay.Written.{Written}
-use Rattle.states.specs.Blocks.{block_numbered, facts_left}
+use Rattle.states.specs.Blocks.{block_numbered, facts_left, HaveRoom}
+use Rattle.states.specs.Remembered.{HasTimes}
 use Rattle.states.specs.Lookup.{facts_over}
 use Rattle.states.specs.Frames.{frame_facts}
 use Rattle.states.specs.State.{entry_fact}
@@ -51,3 +52,51 @@ invariant_of-result-clause-compared c =
 
 pub invariant_of-result-clause-added : goal.invariant_of-result-clause-added
 invariant_of-result-clause-added c = c.in_ok-new.ensures _ _
+
+pub invariant_of-result-clause-low : goal.invariant_of-result-clause-low
+invariant_of-result-clause-low c =
+    let frame = c.args.self.now in
+    let fits : SFits w32 frame.lo = search rules in
+    rw (to_z-of_z w32 frame.lo fits) frame.low
+
+pub invariant_of-result-clause-high : goal.invariant_of-result-clause-high
+invariant_of-result-clause-high c =
+    let frame = c.args.self.now in
+    let fits : SFits w32 frame.lo = search rules in
+    rw (to_z-of_z w32 frame.lo fits)
+    (subst (λ (n : ℕ). (frame.lo +ℤ pos n) ≤ℤ pos (2 ^ 31)) (sym c.in_ok-copy.ensures.room) frame.high)
+
+pub invariant_of-result-clause-whole : goal.invariant_of-result-clause-whole
+invariant_of-result-clause-whole c =
+    subst (λ (n : ℕ). HaveRoom n c.in_ok-copy-2.field-0.room) (sym c.in_ok-copy.ensures.room)
+    (subst (HaveRoom c.args.self.now.overlay.places.len) (sym c.in_ok-copy-2.ensures.room) c.args.self.now.whole)
+
+pub invariant_of-result-clause-timed : goal.invariant_of-result-clause-timed
+invariant_of-result-clause-timed c =
+    subst (λ (n : ℕ). HasTimes n c.in_ok-copy-3.field-0.times.len) (sym c.in_ok-copy.ensures.room)
+    (subst (HasTimes c.args.self.now.overlay.places.len) (sym c.in_ok-copy-3.ensures.len) c.args.self.now.timed)
+
+pub invariant_of-result-clause-each_timed : goal.invariant_of-result-clause-each_timed
+invariant_of-result-clause-each_timed c =
+    c.in_ok-copy-3.ensures.count ∙ c.args.self.now.each_timed ∙ sym c.in_ok-copy.ensures.room
+
+pub invariant_of-result-clause-alike : goal.invariant_of-result-clause-alike
+invariant_of-result-clause-alike c = c.in_ok-new-2.ensures.same ∙ sym c.in_ok-copy-3.ensures.same
+
+pub returns-clause-facts : goal.returns-clause-facts
+returns-clause-facts c =
+    let frame = c.args.self.now in
+    let fits : SFits w32 frame.lo = search rules in
+    rw (to_z-of_z w32 frame.lo fits)
+    (same-facts frame c.in_ok-copy-2.field-0.kept.items c.in_ok-copy.field-0.written.items c.in_ok-copy-2.ensures.kept
+    c.in_ok-copy.ensures.written)
+
+pub returns-clause-room : goal.returns-clause-room
+returns-clause-room c =
+    let frame = c.args.self.now in
+    let fits : SFits w32 frame.lo = search rules in
+    record {
+      lo = to_z-of_z w32 frame.lo fits;
+      len = c.in_ok-copy.ensures.room;
+      same = c.in_ok-copy-3.ensures.same;
+    }

@@ -63,3 +63,10 @@ returns-then-end-start_of c =
     (said-before (frame_facts frame) row c.loop-entry.rest.now c.in-Some.entry.now c.in-Some.later.now first end
     c.loop-entry.invariant.apart (search rules) (omega (arith, ints, starts, ends))
     (rw (to_z-of_z w64 first fits, to_z-of_z w64 end end_fits) at c.loop-entry.invariant.so_far))
+
+pub part_says-requires : goal.part_says-requires
+part_says-requires c =
+    let near = c.end_of.ensures.near in
+    let bound = c.min.ensures.self_bound in
+    let fits : SFits w64 c.min.result = search rules in
+    rw (to_z-of_z w64 c.min.result fits) (omega (arith, ints, near, bound))
