@@ -1,6 +1,7 @@
 //! The compiler: from an occam source to a certified module.
 #![tactic(auto)]
 
+mod code_limits;
 mod exceeding;
 mod generating;
 mod lining;

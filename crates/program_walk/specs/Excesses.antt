@@ -20,3 +20,7 @@ most_of limits.Bytes = 262143
 most_of limits.Tables = 1024
 most_of limits.Size = 8388608
 most_of limits.Work = 400000000
+most_of limits.Reading = 25000000
+most_of (limits.TurnReading most) = most
+most_of limits.Data = 16384
+most_of limits.Budget = 4611686018427387904

@@ -1,5 +1,5 @@
 -- What is written of a limit that is exceeded: our own choice.
-use Rattle.std.specs.Prelude.{◌≡◌, ℕ, List, ◌++◌, codes, Option, Some, None}
+use Rattle.std.specs.Prelude.{◌≡◌, ℕ, List, [], ◌++◌, codes, Option, Some, None}
 use Rattle.std.specs.Fmt.{decimal}
 use Rattle.occam_layout.specs.declared.token.Line.{Line}
 use Rattle.occam_layout.specs.declared.token.Token.{Token}
@@ -11,36 +11,53 @@ use Rattle.program_walk.specs.declared.excess.Limit.{Limit}
 use Rattle.program_walk.specs.declared.excess.Limit.TheVariants as limits
 use Rattle.program_walk.specs.declared.excess.Excess.{Excess}
 
+-- what is written of a limit before the count
+abbrev pub before_count : Limit → Text
+before_count limits.Components = codes "this PAR has "
+before_count limits.Guards = codes "this ALT has "
+before_count limits.Turns = codes "this IF has "
+before_count limits.Words = codes "the variables up to here take "
+before_count limits.Items = codes "the tables and texts up to here have "
+before_count limits.Rows = codes "the constructs and instances up to here take "
+before_count limits.Entries = codes "the rows up to here have "
+before_count limits.Pars = codes "there are "
+before_count limits.Nesting = []
+before_count limits.Processes = []
+before_count limits.Budget = []
+before_count limits.Steps = codes "the loops here take "
+before_count limits.Bytes = codes "the code up to here takes "
+before_count limits.Tables = codes "the code up to here reads "
+before_count limits.Size = codes "the lines up to here, those of each instance again, have a size of "
+before_count limits.Work = codes "writing the code up to here takes "
+before_count limits.Reading = codes "reading the lines up to here, again under each replicator, takes "
+before_count (limits.TurnReading most) = codes "reading a turn of this IF takes "
+before_count limits.Data = codes "the code up to here uses "
+
+-- and after it
+abbrev pub after_count : Limit → Text
+after_count limits.Components = codes " components; at most 64 are possible"
+after_count limits.Guards = codes " guards; at most 64 are possible"
+after_count limits.Turns = codes " turns; at most 8191 are possible"
+after_count limits.Words = codes " words; 16378 are possible"
+after_count limits.Items = codes " items; 4096 are possible"
+after_count limits.Rows = codes " rows or more; 8192 are possible"
+after_count limits.Entries = codes " entries or more; 4194304 are possible"
+after_count limits.Pars = codes " PARs up to here; 1024 are possible"
+after_count limits.Nesting = codes " PARs are within one another here; 64 are possible"
+after_count limits.Processes = codes " processes are within one another here; 2048 are possible"
+after_count limits.Steps = codes " steps or more; 4611686018427387904 are possible"
+after_count limits.Bytes = codes " bytes or more; 262143 are possible"
+after_count limits.Tables = codes " tables; 1024 are possible"
+after_count limits.Size = codes " or more; 8388608 is possible"
+after_count limits.Work = codes " steps or more; 400000000 are possible"
+after_count limits.Reading = codes " steps; 25000000 are possible"
+after_count (limits.TurnReading most) = codes " steps; 4096 and four times its size are possible"
+after_count limits.Data = codes " words; 16384 are possible"
+after_count limits.Budget = codes " steps or more are done from here on; 4611686018427387904 are possible"
+
 -- what there is too much of, how much, and how much is possible
-abbrev pub limit_words : Limit → ℕ → Text
-limit_words limits.Components count =
-    codes "this PAR has " ++ (decimal count ++ codes " components; at most 64 are possible")
-limit_words limits.Guards count = codes "this ALT has " ++ (decimal count ++ codes " guards; at most 64 are possible")
-limit_words limits.Turns count = codes "this IF has " ++ (decimal count ++ codes " turns; at most 8191 are possible")
-limit_words limits.Words count =
-    codes "the variables up to here take " ++ (decimal count ++ codes " words; 16378 are possible")
-limit_words limits.Items count =
-    codes "the tables and texts up to here have " ++ (decimal count ++ codes " items; 4096 are possible")
-limit_words limits.Rows count =
-    codes "the constructs and instances up to here take "
-    ++ (decimal count ++ codes " rows or more; 8192 are possible")
-limit_words limits.Entries count =
-    codes "the rows up to here have " ++ (decimal count ++ codes " entries or more; 4194304 are possible")
-limit_words limits.Pars count = codes "there are " ++ (decimal count ++ codes " PARs up to here; 1024 are possible")
-limit_words limits.Nesting count = decimal count ++ codes " PARs are within one another here; 64 are possible"
-limit_words limits.Processes count =
-    decimal count ++ codes " processes are within one another here; 2048 are possible"
-limit_words limits.Steps count =
-    codes "the loops here take " ++ (decimal count ++ codes " steps or more; 4611686018427387904 are possible")
-limit_words limits.Bytes count =
-    codes "the code up to here takes " ++ (decimal count ++ codes " bytes or more; 262143 are possible")
-limit_words limits.Tables count =
-    codes "the code up to here reads " ++ (decimal count ++ codes " tables; 1024 are possible")
-limit_words limits.Size count =
-    codes "the lines up to here, those of each instance again, have a size of "
-    ++ (decimal count ++ codes " or more; 8388608 is possible")
-limit_words limits.Work count =
-    codes "writing the code up to here takes " ++ (decimal count ++ codes " steps or more; 400000000 are possible")
+unfoldable pub limit_words : Limit → ℕ → Text
+limit_words limit count = before_count limit ++ (decimal count ++ after_count limit)
 
 -- where it is, the line, and the number
 unfoldable pub excess_text : Text → Excess → List ℕ → Span → Text

@@ -18,6 +18,8 @@ pub(crate) struct Amounts {
     pub(crate) size: u64,
     /// The steps of work beside writing.
     pub(crate) work: u64,
+    /// How much of a sequential program is read.
+    pub(crate) reading: u64,
 }
 
 impl Amounts {
@@ -28,12 +30,21 @@ impl Amounts {
         bytes: 0,
         size: 0,
         work: 0,
+        reading: 0,
     };
 
     /// So much work.
     pub(crate) fn work(work: u64) -> Amounts {
         Amounts {
             work,
+            ..Amounts::NOTHING
+        }
+    }
+
+    /// So much of a sequential program is read.
+    pub(crate) fn reading(reading: u64) -> Amounts {
+        Amounts {
+            reading,
             ..Amounts::NOTHING
         }
     }
@@ -58,6 +69,7 @@ impl Amounts {
             bytes: self.bytes.saturating_add(more.bytes),
             size: self.size.saturating_add(more.size),
             work: self.work.saturating_add(more.work),
+            reading: self.reading.saturating_add(more.reading),
         }
     }
 
@@ -70,6 +82,7 @@ impl Amounts {
             bytes: self.bytes.saturating_mul(times),
             size: self.size.saturating_mul(times),
             work: self.work.saturating_mul(times),
+            reading: self.reading.saturating_mul(times),
         }
     }
 }
@@ -156,6 +169,7 @@ fn excess_in_all(line: u32, all: Amounts) -> Option<Excess> {
         .or(Excess::of(line, Limit::Bytes, all.bytes))
         .or(Excess::of(line, Limit::Size, all.size))
         .or(Excess::of(line, Limit::Work, all.work))
+        .or(Excess::of(line, Limit::Reading, all.reading))
 }
 
 /// The first limit of what there is at one place that is exceeded on a line.

@@ -36,6 +36,14 @@ pub enum Limit {
     Size,
     /// The steps of work beside writing.
     Work,
+    /// How much of a sequential program is read, again under each replicator.
+    Reading,
+    /// How much of a turn of a replicated `IF` in a sequential program is read, and the most that is possible.
+    TurnReading(u64),
+    /// The words of the data area.
+    Data,
+    /// The steps from a place to the end of the program.
+    Budget,
 }
 
 impl Limit {
@@ -52,10 +60,13 @@ impl Limit {
             Limit::Entries => 4_194_304,
             Limit::Pars | Limit::Tables => 1_024,
             Limit::Processes => 2_048,
-            Limit::Steps => 4_611_686_018_427_387_904,
+            Limit::Steps | Limit::Budget => 4_611_686_018_427_387_904,
             Limit::Bytes => 262_143,
             Limit::Size => 8_388_608,
             Limit::Work => 400_000_000,
+            Limit::Reading => 25_000_000,
+            Limit::TurnReading(most) => most,
+            Limit::Data => 16_384,
         }
     }
 }

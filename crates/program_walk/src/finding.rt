@@ -8,11 +8,16 @@ use crate::parts::{Depth, Part, Visitor};
 use crate::repeating::{count_of, is_tested, pars_of, pars_of_turns, rows_of, rows_of_turns};
 use crate::walk::walk_program;
 use occam_parser::{
-    Action, Body, ConstantValue, Construct, Declaration, Expr, Guard, Item, Names, Replicator,
-    ValueType,
+    Action, Body, Choice, ConstantValue, Construct, Declaration, Expr, Guard, Item, Names,
+    Replicator, ValueType,
 };
-use program_sizes::{size_of_action, size_of_condition, size_of_declaration, size_of_guard};
-use program_work::{is_sequential, reading_of_action, reading_of_condition, reading_of_guard};
+use program_sizes::{
+    size_of_action, size_of_condition, size_of_declaration, size_of_guard, size_of_replicator,
+};
+use program_work::{
+    is_sequential, reading_of_action, reading_of_condition, reading_of_constant,
+    reading_of_declaration, reading_of_guard, reading_of_replicator, work_of_turn,
+};
 use scalar_ranges::{Meaning, Scope};
 use std::alloc::{AllocError, Global};
 
@@ -97,6 +102,31 @@ impl Counts {
         self.add(line, amounts, Peaks::NOTHING, searching);
     }
 
+    /// A line of this size, of which so much is read: of a sequential program it is gone over once more under each
+    /// replicator, whatever its turns are.
+    fn read(&mut self, line: u32, size: u32, reading: u32) {
+        if !self.is_sequential {
+            return;
+        }
+        let again = u64::from(size).saturating_mul(self.nesting.here().replicators);
+        let amounts = Amounts::reading(u64::from(reading).saturating_add(again));
+        if let Some(counted) = self.counted.get_mut(self.place) {
+            counted.add(line, amounts, Peaks::NOTHING);
+        }
+    }
+
+    /// A turn of a replicated `IF` with this choice.
+    fn read_turn(&mut self, line: u32, choice: &Choice) {
+        if !self.is_sequential {
+            return;
+        }
+        let turn = work_of_turn(choice);
+        let excess = Excess::of(line, Limit::TurnReading(turn.most), u64::from(turn.work));
+        if let Some(counted) = self.counted.get_mut(self.place) {
+            counted.note(excess);
+        }
+    }
+
     /// So many rows and `PAR`s.
     fn see_rows(&mut self, line: u32, rows: u64, pars: u64, peaks: Peaks) {
         let rows = Amounts::rows(rows, self.nesting.here().variables);
@@ -153,6 +183,7 @@ impl Counts {
             reading_of_action(action),
             bytes_of(action),
         );
+        self.read(line, size_of_action(action), reading_of_action(action));
         match action {
             Action::Stop => self.see_rows(line, 1, 0, Peaks::NOTHING),
             Action::Instance { name, actuals } => {
@@ -167,10 +198,12 @@ impl Counts {
 
     /// A condition that is tested: what is known to hold may have no test.
     fn see_condition(&mut self, scope: &Scope, line: u32, condition: &Expr) {
+        let size = size_of_condition(condition);
+        let reading = reading_of_condition(condition);
         if is_tested(scope, condition) {
-            let reading = reading_of_condition(condition);
-            self.see_line(line, size_of_condition(condition), reading, 0);
+            self.see_line(line, size, reading, 0);
         }
+        self.read(line, size, reading);
     }
 
     fn see_guard(&mut self, line: u32, guard: &Guard) {
@@ -196,7 +229,9 @@ impl Counts {
     }
 
     fn see_declaration(&mut self, scope: &Scope, line: u32, declaration: &Declaration) {
-        self.see_line(line, size_of_declaration(declaration), 0, 0);
+        let size = size_of_declaration(declaration);
+        self.see_line(line, size, 0, 0);
+        self.read(line, size, reading_of_declaration(declaration));
         match declaration {
             Declaration::Constant(constant) => self.see_value(line, &constant.value),
             Declaration::Variables(names) => {
@@ -209,6 +244,12 @@ impl Counts {
         }
     }
 
+    /// How much of the constants of a sequential program is read.
+    fn read_of_constants(&self) -> u64 {
+        let constants = self.counted.first().copied();
+        constants.unwrap_or(Counted::NOTHING).amounts.reading
+    }
+
     /// An item, before which a scope has so many names.
     fn see_item(&mut self, scope: &Scope, line: u32, item: &Item) {
         self.nesting.leave(0);
@@ -217,10 +258,12 @@ impl Counts {
             Item::Constant(constant) => {
                 self.place = 0;
                 self.see_value(line, &constant.value);
+                self.read(line, 0, reading_of_constant(constant));
             }
             Item::Proc(_) => {
                 self.place = self.counted.len();
                 let counted = Counted {
+                    amounts: Amounts::reading(self.read_of_constants()),
                     names: scope.len() as u64,
                     ..Counted::NOTHING
                 };
@@ -232,17 +275,17 @@ impl Counts {
     fn see_construct(&mut self, line: u32, construct: &Construct) {
         match construct {
             Construct::Par(processes) => {
+                self.read(line, 1, 1);
                 self.count(line, Limit::Components, processes.len() as u64);
                 let around = self.nesting.here().with_searches(1);
                 self.complete &= self.nesting.enter(self.depth.processes, around).is_ok();
             }
             Construct::Alt(branches) => {
+                self.read(line, 1, 1);
                 self.count(line, Limit::Guards, branches.len() as u64);
             }
-            Construct::Action(_)
-            | Construct::Seq(_)
-            | Construct::If(_)
-            | Construct::Replicated { .. } => {}
+            Construct::Seq(_) | Construct::If(_) => self.read(line, 1, 1),
+            Construct::Action(_) | Construct::Replicated { .. } => {}
         }
         self.see_rows(line, rows_of(construct), pars_of(construct), Peaks::NOTHING);
     }
@@ -252,10 +295,18 @@ impl Counts {
         let count = count_of(scope, &replicator.count);
         let around = self.nesting.here().in_turns(body, count);
         let mut peaks = Peaks::NOTHING;
+        self.read(
+            line,
+            size_of_replicator(replicator),
+            reading_of_replicator(replicator),
+        );
         match body {
             Body::Seq(_) => peaks.turns = around.turns,
             Body::Par(_) => self.count(line, Limit::Components, count),
-            Body::If(_) => self.count(line, Limit::Turns, count),
+            Body::If(choice) => {
+                self.count(line, Limit::Turns, count);
+                self.read_turn(line, choice);
+            }
             Body::Alt(_) => self.count(line, Limit::Guards, count),
         }
         let rows = rows_of_turns(body, count);

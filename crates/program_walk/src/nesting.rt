@@ -16,6 +16,8 @@ pub(crate) struct Around {
     pub(crate) turns: u64,
     /// How often it is gone over for what a loop or a component changes.
     pub(crate) searched: u64,
+    /// How many replicators there are.
+    pub(crate) replicators: u64,
 }
 
 impl Around {
@@ -26,6 +28,7 @@ impl Around {
         written: 1,
         turns: 1,
         searched: 0,
+        replicators: 0,
     };
 
     /// Names more, with so many words, of which so many are variables.
@@ -49,19 +52,23 @@ impl Around {
 
     /// Under a replicator with so many turns: the body of a loop is written once, if it has turns.
     pub(crate) fn in_turns(self, body: &Body, count: u64) -> Around {
+        let around = Around {
+            replicators: self.replicators.saturating_add(1),
+            ..self
+        };
         match body {
             Body::Seq(_) => Around {
                 written: self.written.saturating_mul(count.min(1)),
                 turns: self.turns.saturating_mul(count),
-                ..self.with_searches(1).with_names(0, 1)
+                ..around.with_searches(1).with_names(0, 1)
             },
             Body::Par(_) => Around {
                 written: self.written.saturating_mul(count),
-                ..self.with_searches(count)
+                ..around.with_searches(count)
             },
             Body::If(_) | Body::Alt(_) => Around {
                 written: self.written.saturating_mul(count),
-                ..self
+                ..around
             },
         }
     }

@@ -126,6 +126,43 @@ impl<'a> Walk<'a> {
         }
     }
 
+    /// A construct that begins on this line is shown, but for an action, and what is known in it begins.
+    fn begin<V: Visitor>(&mut self, visitor: &mut V, line: u32, construct: &Construct<'a>) {
+        if !matches!(construct, Construct::Action(_)) {
+            visitor.visit(&self.scope, line, Part::Construct(construct));
+        }
+        match construct {
+            Construct::Par(_) => self.complete &= self.scope.begin_par().is_ok(),
+            Construct::If(_) | Construct::Alt(_) => self.complete &= self.scope.begin().is_ok(),
+            Construct::Action(_) | Construct::Seq(_) | Construct::Replicated { .. } => {}
+        }
+    }
+
+    /// What is known in it ends.
+    fn end(&mut self, construct: &Construct) {
+        match construct {
+            Construct::Action(_) | Construct::Seq(_) => {}
+            Construct::Par(_)
+            | Construct::If(_)
+            | Construct::Alt(_)
+            | Construct::Replicated { .. } => self.scope.end(),
+        }
+    }
+
+    /// A replicator is shown, and then its turns begin, with an index that may be each of its values, as that of a `SEQ`.
+    fn replicate<V: Visitor>(
+        &mut self,
+        visitor: &mut V,
+        line: u32,
+        replicator: &Replicator<'a>,
+        body: &Body<'a>,
+    ) {
+        visitor.visit(&self.scope, line, Part::Turns(replicator, body));
+        let repeats = repeats_of(true, &self.scope, true, replicator);
+        self.begin_turns(replicator, body);
+        self.add(replicator.name, repeats.index_in(0));
+    }
+
     /// A process, with what it declares.
     #[cycle(walk)]
     fn process<V: Visitor>(&mut self, visitor: &mut V, process: &Process<'a>) {
@@ -140,9 +177,7 @@ impl<'a> Walk<'a> {
     /// A construct that begins on this line.
     #[cycle(walk)]
     fn construct<V: Visitor>(&mut self, visitor: &mut V, line: u32, construct: &Construct<'a>) {
-        if !matches!(construct, Construct::Action(_)) {
-            visitor.visit(&self.scope, line, Part::Construct(construct));
-        }
+        self.begin(visitor, line, construct);
         match construct {
             Construct::Action(action) => self.act(visitor, line, action),
             Construct::Seq(processes) => {
@@ -151,30 +186,26 @@ impl<'a> Walk<'a> {
                 }
             }
             Construct::Par(processes) => {
-                self.complete &= self.scope.begin_par().is_ok();
                 for process in processes {
                     self.component(visitor, process);
                 }
-                self.scope.end();
             }
             Construct::If(choices) => {
-                self.complete &= self.scope.begin().is_ok();
                 for choice in choices {
                     self.choice(visitor, choice);
                 }
-                self.scope.end();
             }
             Construct::Alt(branches) => {
-                self.complete &= self.scope.begin().is_ok();
                 for branch in branches {
                     self.branch(visitor, branch);
                 }
-                self.scope.end();
             }
             Construct::Replicated { replicator, body } => {
-                self.replicated(visitor, line, replicator, body);
+                self.replicate(visitor, line, replicator, body);
+                self.body(visitor, body);
             }
         }
+        self.end(construct);
     }
 
     /// A process whose names are left after it.
@@ -185,18 +216,26 @@ impl<'a> Walk<'a> {
         self.scope.leave(count);
     }
 
+    /// The numbers of the variables that a process changes.
+    fn changed_in(&mut self, process: &Process<'a>) -> Vec<usize> {
+        match variables_changed(self.alloc, &self.signatures, &mut self.scope, process) {
+            Ok(numbers) => numbers,
+            Err(_) => {
+                self.complete = false;
+                Vec::new(self.alloc)
+            }
+        }
+    }
+
     /// A component of a `PAR`.
     #[cycle(walk)]
     fn component<V: Visitor>(&mut self, visitor: &mut V, process: &Process<'a>) {
-        let changed = variables_changed(self.alloc, &self.signatures, &mut self.scope, process);
+        let changed = self.changed_in(process);
         let outside = self.depth;
         self.depth.pars = outside.pars.saturating_add(1);
         self.process(visitor, process);
         self.depth = outside;
-        match changed {
-            Ok(numbers) => self.scope.next_component(&numbers),
-            Err(_) => self.complete = false,
-        }
+        self.scope.next_component(&changed);
     }
 
     /// A choice of an `IF`.
@@ -217,26 +256,15 @@ impl<'a> Walk<'a> {
         self.scope.next();
     }
 
-    /// A body under a replicator, once, with an index that may be each of its values, as that of a `SEQ`.
+    /// A body under a replicator, once.
     #[cycle(walk)]
-    fn replicated<V: Visitor>(
-        &mut self,
-        visitor: &mut V,
-        line: u32,
-        replicator: &Replicator<'a>,
-        body: &Body<'a>,
-    ) {
-        visitor.visit(&self.scope, line, Part::Turns(replicator, body));
-        let repeats = repeats_of(true, &self.scope, true, replicator);
-        self.begin_turns(replicator, body);
-        self.add(replicator.name, repeats.index_in(0));
+    fn body<V: Visitor>(&mut self, visitor: &mut V, body: &Body<'a>) {
         match body {
             Body::Seq(process) => self.inner(visitor, process),
             Body::Par(process) => self.component(visitor, process),
             Body::If(choice) => self.choice(visitor, choice),
             Body::Alt(branch) => self.branch(visitor, branch),
         }
-        self.scope.end();
     }
 
     /// What those that call a procedure know of it.

@@ -15,4 +15,4 @@ pub use lines::{
 };
 pub use programs::{is_too_much_to_write, names_in};
 pub use reading::reading_of_expression;
-pub use sums::{GREATEST_WORK, is_sequential, is_too_much_work};
+pub use sums::{GREATEST_WORK, TurnWork, is_sequential, is_too_much_work, work_of_turn};

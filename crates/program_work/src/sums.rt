@@ -6,6 +6,7 @@ ghost use Rattle.occam_parser.specs.BlockViews.{process_of, construct_of, body_o
 ghost use Rattle.occam_parser.specs.BlockViews.{all_processes, all_choices, all_branches};
 ghost use Rattle.program_work.specs.Processes.{is_sequential, is_too_much_work, is_sequential_action};
 ghost use Rattle.program_work.specs.Processes.{names_of_declaration, work_for_size, free_work};
+ghost use Rattle.program_work.specs.Processes.{component_size_in_turn, component_work_in_turn};
 ghost use Rattle.program_work.specs.Sums.{sums, of_line, both, with_names, not_sequential, in_block, repeated};
 ghost use Rattle.program_work.specs.Sums.{in_turns, sums_of, sums_of_construct, sums_of_body, sums_of_components};
 ghost use Rattle.program_work.specs.Sums.{sums_of_component, sums_of_declared, sums_of_action, sums_of_replicator};
@@ -24,6 +25,15 @@ const WORK_FOR_SIZE: u32 = 4;
 
 /// The work that such a turn may have beside that.
 const FREE_WORK: u32 = 4_096;
+
+/// The work of a turn of a replicated `IF`.
+#[derive(Clone, Copy)]
+pub struct TurnWork {
+    /// As far as a `u32` goes.
+    pub work: u32,
+    /// The most that it may be: in proportion to the size of the turn.
+    pub most: u64,
+}
 
 /// What is counted of a part of a program, as far as a `u32` goes.
 #[derive(Clone, Copy)]
@@ -318,4 +328,16 @@ pub fn is_too_much_work(process: &Process) -> bool
 {
     let sums = sums_of(process);
     sums.work > GREATEST_WORK || sums.is_steep
+}
+
+/// The work of a turn of a replicated `IF` with this choice, but for what is under a further replicated `IF`.
+pub fn work_of_turn(choice: &Choice) -> TurnWork
+    ensures work { result.work ≡ capped (component_work_in_turn (choice_of choice.now)) }
+    ensures most { result.most ≡ work_for_size * capped (component_size_in_turn (choice_of choice.now)) + free_work }
+{
+    let sums = sums_of_choice(choice);
+    TurnWork {
+        work: sums.work_in_turn,
+        most: u64::from(WORK_FOR_SIZE) * u64::from(sums.size_in_turn) + u64::from(FREE_WORK),
+    }
 }
