@@ -13,8 +13,9 @@ use Rattle.verifier.specs.Judge.{start_among, judge}
 use Rattle.fact_texts.specs.Texts.{Text}
 use Rattle.state_texts.specs.declared.settings.Setting.{Setting}
 use Rattle.state_texts.specs.FrameTexts.{frame_text}
-use Rattle.sentences.specs.Sights.{sight_text, setting_after, is_at_entry, breach_text, ended_text, accepted_text}
-use Rattle.sentences.specs.Sights.{rows_before, run_past, past_text}
+use Rattle.explanation_parts.specs.Refusals.{is_at_entry, ended_text, accepted_text, run_past, past_text}
+use Rattle.explanation_parts.specs.Sights.{sight_text, setting_after}
+use Rattle.sentences.specs.Breaches.{breach_text, rows_before}
 use Rattle.explanations.specs.Explaining.{explained, fetched_text, rule_text, last_text, starts_text, breaking}
 use Rattle.explanations.specs.Endings.{Tells}
 

@@ -13,8 +13,9 @@ use Rattle.certified_worlds.specs.Certified.{state_at, entering}
 use Rattle.verifier.specs.Judge.{judged_at, start_among}
 use Rattle.fact_texts.specs.Texts.{Text}
 use Rattle.state_texts.specs.declared.settings.Setting.{Setting}
-use Rattle.sentences.specs.Sights.{sight_text, setting_after, hidden_text, unspelled_text, ended_text}
-use Rattle.sentences.specs.Sights.{is_at_entry, breach_text}
+use Rattle.explanation_parts.specs.Refusals.{hidden_text, unspelled_text, ended_text, is_at_entry}
+use Rattle.explanation_parts.specs.Sights.{sight_text, setting_after}
+use Rattle.sentences.specs.Breaches.{breach_text}
 use Rattle.explanations.specs.Explaining.{explained, explanation, fetched_text, rule_text, last_text, starts_text}
 use Rattle.explanations.specs.Explaining.{root_setting, breaking, Explains}
 

@@ -16,7 +16,8 @@ use Rattle.verifier.specs.Walking.{by_start}
 use Rattle.verifier.proofs.Walks.{HasEntered, breaks_there, start_is_beyond, way_breaks, way_misspelled, way_ended}
 use Rattle.fact_texts.specs.Texts.{Text}
 use Rattle.state_texts.specs.declared.settings.Setting.{Setting}
-use Rattle.sentences.specs.Sights.{sight_text, setting_after, hidden_text, unspelled_text, ended_text}
+use Rattle.explanation_parts.specs.Refusals.{hidden_text, unspelled_text, ended_text}
+use Rattle.explanation_parts.specs.Sights.{sight_text, setting_after}
 use Rattle.explanations.specs.declared.explaining.Told.{Told}
 use Rattle.explanations.specs.declared.explaining.Told.TheVariants.{All, Part}
 use Rattle.explanations.specs.Explaining.{explanation, last_text, Explains, IsElsewhere}

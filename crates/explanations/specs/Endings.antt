@@ -3,7 +3,7 @@ use Rattle.std.specs.Prelude.{◌≡◌, ◌++◌, Ok, Err}
 use Rattle.module_format.specs.Contents.{Contents}
 use Rattle.verifier.specs.Judge.{Verdict}
 use Rattle.fact_texts.specs.Texts.{Text}
-use Rattle.sentences.specs.Sights.{refused_text, accepted_text}
+use Rattle.explanation_parts.specs.Refusals.{refused_text, accepted_text}
 
 -- the text ends so
 abbrev pub EndsWith : Text → Text → Type 0

@@ -13,8 +13,9 @@ use Rattle.verifier.specs.declared.stop.Breach.{Breach}
 use Rattle.verifier.specs.Judge.{judged_at, start_among}
 use Rattle.fact_texts.specs.Texts.{Text}
 use Rattle.state_texts.specs.declared.settings.Setting.{Setting}
-use Rattle.sentences.specs.Sights.{sight_text, setting_after, is_at_entry, breach_text, hidden_text, unspelled_text}
-use Rattle.sentences.specs.Sights.{ended_text}
+use Rattle.explanation_parts.specs.Refusals.{is_at_entry, hidden_text, unspelled_text, ended_text}
+use Rattle.explanation_parts.specs.Sights.{sight_text, setting_after}
+use Rattle.sentences.specs.Breaches.{breach_text}
 
 -- ---- the walk
 

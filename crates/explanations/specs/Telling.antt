@@ -4,7 +4,7 @@ use Rattle.module_format.specs.Contents.{Contents}
 use Rattle.verifier.specs.declared.stop.Breach.{Breach}
 use Rattle.verifier.specs.Judge.{Verdict, verdict}
 use Rattle.fact_texts.specs.Texts.{Text}
-use Rattle.sentences.specs.Sights.{hidden_text}
+use Rattle.explanation_parts.specs.Refusals.{hidden_text}
 use Rattle.explanations.specs.declared.explaining.Told.{Told}
 use Rattle.explanations.specs.declared.explaining.Told.TheVariants.{All, Part}
 use Rattle.explanations.specs.Explaining.{explanation}

@@ -5,7 +5,7 @@ ghost use Rattle.std.specs.Prelude.{string_bytes, length, if◌then◌else◌};
 ghost use Rattle.module_format.specs.Keeping.{Keeps};
 ghost use Rattle.states.specs.declared.rule.Rule.TheVariants.{Spelling};
 ghost use Rattle.certified_worlds.specs.Certified.{entering, state_at};
-ghost use Rattle.sentences.specs.Sights.{hidden_text, unspelled_text, ended_text};
+ghost use Rattle.explanation_parts.specs.Refusals.{hidden_text, unspelled_text, ended_text};
 ghost use Rattle.verifier.specs.Judge.{verdict, refused, at_the_end};
 ghost use Rattle.verifier.specs.Walking.{before_of, walked, HasArrived, IsBegun};
 ghost use Rattle.explanations.specs.Explaining.{explanation, last_text, root_setting, IsElsewhere};
@@ -13,10 +13,9 @@ ghost use Rattle.explanations.specs.Telling.{IsKnown, IsTold, TellsBreach};
 ghost use Rattle.explanations.specs.declared.explaining.Told.TheVariants.{All};
 
 use certificate::Module;
-use sentences::{
-    Broken, is_at_entry, push_breach, push_end, push_hidden, push_sight, push_unspelled,
-    setting_after,
-};
+use explanation_parts::refusals::{is_at_entry, push_end, push_hidden, push_unspelled};
+use explanation_parts::sights::{push_sight, setting_after};
+use sentences::{Broken, push_breach};
 use state_texts::Setting;
 use states::{Mode, Rule};
 use std::alloc::{AllocError, Global};

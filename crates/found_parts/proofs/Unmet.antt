@@ -118,11 +118,13 @@ module _ (m : Contents) (s : State) where
       (word_prepared (par.block +ℤ pos 1) (wants.Number (pos (length par.branches) +ℤ pos 1)) second.0 second.1)
 
   channel_prepared : (c : ChannelRow) → channel_is_empty m s c ≡ true → channel_fault m s c ≡ None
+  unfolding channel_fault
   channel_prepared c is =
       let parts = and_parts (may_write_word m s.context c.word) _ is in
       word_prepared c.word (wants.Number least_word) parts.0 parts.1
 
   given_here : (j : ℕ) → is_as_given m s j ≡ true → given_fault m s (pos j) ≡ None
+  unfolding given_fault
   given_here j is = on (slice_get (parameters_at m s.context) j) is
     where
       on : (o : Option Parameter) → (elim o as (λ o. Bool) [
@@ -138,12 +140,14 @@ module _ (m : Contents) (s : State) where
           (found_unless _ (faults.Word (pos p.word) (wants.Parameter (pos j)) (s.frame (pos p.word))) parts.1)
 
   end_given : (kind : EndKind) → end_is_as_given m s kind ≡ true → end_fault m s kind ≡ None
+  unfolding end_fault
   end_given (ends.Parameter (pos j) element) is = given_here j is
   end_given (ends.Parameter (negsuc j) element) is = absurd (cc)
   end_given (ends.FrameWord word) is = refl
   end_given (ends.Link link) is = refl
 
   all_named : (b : Branch) → named_are_as_given m s b ≡ true → named_fault m s b ≡ None
+  unfolding named_fault
   all_named b is =
       let parts = and_parts (list_all (is_as_given m s) b.written_parameters
       && list_all (is_as_given m s) b.read_parameters) _ is in

@@ -61,7 +61,7 @@ block_fault m s par =
     option_or (prepared m s par.block (wants.Code par.successor))
     (prepared m s (par.block +ℤ pos 1) (count_wanted par))
 
-abbrev pub channel_fault : Contents → State → ChannelRow → Option StartFault
+unfoldable pub channel_fault : Contents → State → ChannelRow → Option StartFault
 channel_fault m s c = prepared m s c.word (wants.Number least_word)
 
 -- ---- parameters
@@ -76,11 +76,11 @@ given_from m s number None = Some (faults.UnreadableParameter number)
 given_from m s number (Some word) = option_or (unreadable m s word) (unlike s word (wants.Parameter number))
 
 -- the context may not read the word of a parameter, or it is not as it was given
-abbrev pub given_fault : Contents → State → ℤ → Option StartFault
+unfoldable pub given_fault : Contents → State → ℤ → Option StartFault
 given_fault m s number = given_from m s number (parameter_word (parameters_at m s.context) number)
 
 -- the same of the parameter whose channel has an end, if it is a parameter's
-abbrev pub end_fault : Contents → State → EndKind → Option StartFault
+unfoldable pub end_fault : Contents → State → EndKind → Option StartFault
 end_fault m s (ends.Parameter number element) = given_fault m s number
 end_fault m s kind = None
 
@@ -89,7 +89,7 @@ abbrev pub listed_fault : Contents → State → ℕ → Option StartFault
 listed_fault m s j = given_fault m s (pos j)
 
 -- the same of all parameters that a branch names
-abbrev pub named_fault : Contents → State → Branch → Option StartFault
+unfoldable pub named_fault : Contents → State → Branch → Option StartFault
 named_fault m s b =
     option_or
     (option_or (first_of (listed_fault m s) b.written_parameters) (first_of (listed_fault m s) b.read_parameters))

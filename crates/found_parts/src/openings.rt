@@ -137,6 +137,7 @@ fn block_fault(module: &Module, state: &State, par: &ParRow) -> Option<StartFaul
 }
 
 /// What a PAR wants of the word of a channel.
+#[tactic(auto, unfolding(crate::specs::Openings::channel_fault))]
 fn channel_fault(module: &Module, state: &State, channel: &ChannelRow) -> Option<StartFault>
     ensures { result ≡ channel_fault «module».now (state_of state.now) channel.now }
 {
@@ -173,6 +174,7 @@ fn parameter_word(module: &Module, context: u32, number: i32) -> Option<i64>
 }
 
 /// What a PAR wants of the word of a parameter: that the context may read it, and that it is as it was given.
+#[tactic(auto, unfolding(crate::specs::Openings::given_fault))]
 fn given_fault(module: &Module, state: &State, number: i32) -> Option<StartFault>
     ensures { result ≡ given_fault «module».now (state_of state.now) number }
 {
@@ -185,6 +187,7 @@ fn given_fault(module: &Module, state: &State, number: i32) -> Option<StartFault
 }
 
 /// The same of the parameter whose channel has an end, if it is a parameter's.
+#[tactic(auto, unfolding(crate::specs::Openings::end_fault))]
 fn end_fault(module: &Module, state: &State, kind: EndKind) -> Option<StartFault>
     ensures { result ≡ end_fault «module».now (state_of state.now) kind }
 {
@@ -221,6 +224,7 @@ fn ends_fault(module: &Module, state: &State, ends: &[EndRow]) -> Option<StartFa
 }
 
 /// The same of all parameters that a branch names.
+#[tactic(auto, unfolding(crate::specs::Openings::named_fault))]
 fn named_fault(module: &Module, state: &State, branch: &BranchRow) -> Option<StartFault>
     ensures { result ≡ named_fault «module».now (state_of state.now) (branch_of branch.now) }
 {

@@ -9,14 +9,14 @@ use Rattle.machine_state.specs.declared.instruction.Instruction.TheVariants.{Cal
 use Rattle.machine_state.specs.LocalStep.{target}
 use Rattle.states.specs.State.{State}
 use Rattle.fact_texts.specs.Texts.{Text}
-use Rattle.sentences.specs.declared.ways.Way.{Way}
+use Rattle.explanation_parts.specs.declared.ways.Way.{Way}
 use Rattle.found_parts.specs.declared.turns.Turn.{Turn}
 use Rattle.found_parts.specs.Turns.{turn_of}
-use Rattle.sentences.specs.declared.leads.Lead.{Lead}
-use Rattle.sentences.specs.declared.found.Spot.{Spot}
+use Rattle.explanation_parts.specs.declared.leads.Lead.{Lead}
+use Rattle.explanation_parts.specs.declared.places.Spot.{Spot}
 use Rattle.sentences.specs.Parts.{turn_part}
-use Rattle.sentences.specs.Leads.{lead_of}
-use Rattle.sentences.specs.Costs.{label_cost}
+use Rattle.explanation_parts.specs.Leads.{lead_of}
+use Rattle.explanation_parts.specs.Costs.{label_cost}
 
 unfoldable pub label_words : Text
 label_words = codes "; the label costs "

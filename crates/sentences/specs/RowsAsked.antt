@@ -16,8 +16,8 @@ use Rattle.states.specs.declared.rule.Rule.{Rule}
 use Rattle.states.specs.declared.rule.Rule.TheVariants as rules
 use Rattle.states.specs.State.{State}
 use Rattle.fact_texts.specs.Texts.{Text}
-use Rattle.sentences.specs.Begun.{branch_target, row_target}
-use Rattle.sentences.specs.Rows.{rows_text}
+use Rattle.sentences.specs.Targets.{branch_target, row_target}
+use Rattle.explanation_parts.specs.Rows.{rows_text}
 
 -- ---- procedures and branches
 
@@ -31,7 +31,7 @@ row_distance rules.Alternation i e stack = None
 row_distance rules.Par i e stack = branch_target i stack
 row_distance rule i e stack = row_target i e stack
 
-abbrev pub rows_at : Contents → ℕ → Option ℤ → Text
+unfoldable pub rows_at : Contents → ℕ → Option ℤ → Text
 rows_at m next None = []
 rows_at m next (Some distance) = rows_text m (target next distance)
 

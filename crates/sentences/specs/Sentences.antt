@@ -14,9 +14,9 @@ use Rattle.listings.specs.Listing.{entry_of, entry_name, entry_text}
 use Rattle.listings.specs.declared.lines.Entry.{Entry}
 use Rattle.listings.specs.declared.lines.Entry.TheVariants.{Operation}
 use Rattle.listings.specs.Names.{operation_name}
-use Rattle.sentences.specs.declared.found.Spot.{Spot}
-use Rattle.sentences.specs.Wanted.{wanted}
-use Rattle.sentences.specs.Results.{result_of}
+use Rattle.explanation_parts.specs.declared.places.Spot.{Spot}
+use Rattle.explanation_parts.specs.Wanted.{wanted}
+use Rattle.explanation_parts.specs.Results.{result_of}
 use Rattle.sentences.specs.Found.{found}
 
 unfoldable pub wants_part : Text → Text

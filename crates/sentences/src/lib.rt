@@ -1,25 +1,14 @@
-//! What is written of an instruction where a module is explained, and the sentence that explains a refusal.
+//! The sentence that explains a refusal, and what is written before it.
 #![tactic(auto)]
 
-mod begun;
-mod channels;
-mod costs;
 mod found;
-mod lacks;
-mod leads;
 mod moves;
-mod parameters;
 mod parts;
 mod payments;
 mod reasons;
-mod results;
 mod rows;
 mod sentence;
-mod sights;
 mod started;
-mod uses;
-mod wanted;
-mod ways;
+mod targets;
 
-pub use reasons::{Broken, is_at_entry, push_breach, push_end, push_hidden, push_unspelled};
-pub use sights::{push_sight, setting_after};
+pub use reasons::{Broken, push_breach};

@@ -9,10 +9,10 @@ ghost use Rattle.sentences.specs.RowsAsked.{row_distance, rows_at, joined_at, jo
 ghost use Rattle.sentences.specs.RowsAsked.{ended_par, first_of, successor_of, rows_of, exit_rows, exits_of};
 ghost use Rattle.sentences.specs.RowsAsked.{rows_behind, rows_there, rows_asked};
 
-use crate::begun::{branch_target, row_target};
-use crate::leads::target;
-use crate::sights::push_rows;
+use crate::targets::{branch_target, row_target};
 use certificate::Module;
+use explanation_parts::leads::target;
+use explanation_parts::sights::push_rows;
 use machine_state::{Instruction, Op};
 use module_format::Stack;
 use prefix_decoder::Instr;

@@ -6,10 +6,11 @@ ghost use Rattle.states.specs.Views.{state_of};
 ghost use Rattle.sentences.specs.Sentences.{wants_part, found_part, wants_text, operation_text, name_text};
 ghost use Rattle.sentences.specs.Sentences.{named_text, no_instruction, sentence};
 
-use crate::found::{Spot, push_found};
-use crate::results::result_of;
-use crate::wanted::wanted;
+use crate::found::push_found;
 use certificate::Module;
+use explanation_parts::places::Spot;
+use explanation_parts::results::result_of;
+use explanation_parts::wanted::wanted;
 use fact_texts::RangeText;
 use listings::{Entry, entry_of, operation_name};
 use machine_state::{Instruction, Op};

@@ -3,14 +3,14 @@
 ghost use Rattle.std.specs.Prelude.{◌≡◌, ◌++◌, OnOk, string_bytes};
 ghost use Rattle.certificate.specs.Branches.{branch_at};
 ghost use Rattle.states.specs.Views.{state_of};
-ghost use Rattle.sentences.specs.Begun.{branch_target};
+ghost use Rattle.sentences.specs.Targets.{branch_target};
 ghost use Rattle.sentences.specs.Started.{fault_text, common_text, shared_text, fault_at, shared_at};
 ghost use Rattle.sentences.specs.Started.{fault_part, shared_part};
 
-use crate::begun::branch_target;
-use crate::found::Spot;
-use crate::leads::target;
+use crate::targets::branch_target;
 use certificate::Module;
+use explanation_parts::leads::target;
+use explanation_parts::places::Spot;
 use found_parts::{Common, Shared, Start, StartFault, shared_in, start_fault};
 use states::State;
 use std::alloc::AllocError;

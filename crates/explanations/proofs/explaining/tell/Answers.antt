@@ -3,7 +3,7 @@ use Rattle.std.specs.Prelude.{string_bytes}
 use Rattle.module_format.specs.Contents.{Contents}
 use Rattle.verifier.specs.Walking.{before_of, HasGoneOn}
 use Rattle.verifier.proofs.Walks.{HasEntered, has_entered, way_begins, way_goes_on, goes_as, breaks_as}
-use Rattle.sentences.specs.Seen.{seen}
+use Rattle.explanation_parts.specs.Seen.{seen}
 use Rattle.explanations.proofs.Explains.{begins}
 use Rattle.explanations.proofs.Walked.{if_ok, told_unspelled, told_ended, told_last, told_breach, goes_on_here}
 use Rattle.explanations.proofs.explaining.tell.Goals as goal

@@ -2,7 +2,7 @@ use Rattle.std.proofs.Common.{ap, Err}
 use Rattle.std.specs.Prelude.{string_bytes}
 use Rattle.verifier.specs.declared.stop.Breach.{Breach}
 use Rattle.verifier.specs.Walking.{before_of, walked}
-use Rattle.sentences.specs.Seen.{seen}
+use Rattle.explanation_parts.specs.Seen.{seen}
 use Rattle.explanations.specs.declared.explaining.Told.TheVariants.{All}
 use Rattle.explanations.proofs.Explains.{is_last}
 use Rattle.explanations.proofs.explaining.tell_last.Goals as goal
