@@ -35,8 +35,8 @@ fn push_item(text: &mut String, walk: Walk, group: Group) -> Result<(), AllocErr
         Group::File => text.push_str(""),
         Group::Registers => text.push_str(register_name(number)),
         _ => {
-            text.push_str(group_of(group).words)?;
-            write!(text, "{number}, ")
+            let words = group_of(group).words;
+            write!(text, "{words}{number}, ")
         }
     }
 }

@@ -1,7 +1,7 @@
 //! Why a file is no module.
-#![tactic(auto, unfolding(crate::proofs::Opening::reasons_opens))]
 
 ghost use Rattle.std.specs.Prelude.{◌≡◌, ◌++◌, OnOk, string_bytes};
+ghost use Rattle.std.specs.Fmt.{decimal};
 ghost use Rattle.file_faults.specs.FileFaults.{ended_text, field_text, file_fault, has_text, left_text, limit_of};
 ghost use Rattle.file_faults.specs.FileFaults.{limit_text, order_text, range_text, size_text, why, words_of};
 
@@ -37,6 +37,7 @@ fn limit_of(is_two: bool, role: Role) -> u64
 }
 
 /// The words of a fault by its number, which stand before, after or without its field.
+#[tactic(auto, unfolding(crate::specs::FileFaults::words_of))]
 fn words_of(number: u8) -> &'static str
     ensures { result.now ≡ words_of number }
 {
@@ -50,6 +51,7 @@ fn words_of(number: u8) -> &'static str
 }
 
 /// Appends a field by its place and its name.
+#[tactic(auto, unfolding(crate::specs::FileFaults::field_text))]
 fn push_field(text: &mut String, walk: Walk) -> Result<(), AllocError>
     ensures { OnOk result (string_bytes text.new ≡ string_bytes text.old ++ field_text walk) }
 {
@@ -58,6 +60,7 @@ fn push_field(text: &mut String, walk: Walk) -> Result<(), AllocError>
 }
 
 /// Appends the same, and what it has.
+#[tactic(auto, unfolding(crate::specs::FileFaults::has_text))]
 fn push_has(text: &mut String, walk: Walk, value: u64) -> Result<(), AllocError>
     ensures { OnOk result (string_bytes text.new ≡ string_bytes text.old ++ has_text walk value) }
 {
@@ -67,6 +70,7 @@ fn push_has(text: &mut String, walk: Walk, value: u64) -> Result<(), AllocError>
 }
 
 /// Appends in which field a file ends.
+#[tactic(auto, unfolding(crate::specs::FileFaults::ended_text))]
 fn push_ended(text: &mut String, walk: Walk) -> Result<(), AllocError>
     ensures { OnOk result (string_bytes text.new ≡ string_bytes text.old ++ ended_text walk) }
 {
@@ -75,6 +79,7 @@ fn push_ended(text: &mut String, walk: Walk) -> Result<(), AllocError>
 }
 
 /// Appends which field does not come after what is before it.
+#[tactic(auto, unfolding(crate::specs::FileFaults::order_text))]
 fn push_order(text: &mut String, walk: Walk, value: u64) -> Result<(), AllocError>
     ensures { OnOk result (string_bytes text.new ≡ string_bytes text.old ++ order_text walk value) }
 {
@@ -82,18 +87,33 @@ fn push_order(text: &mut String, walk: Walk, value: u64) -> Result<(), AllocErro
     text.push_str(words_of(ORDER))
 }
 
+/// Appends a number between words.
+fn push_numbered(
+    text: &mut String,
+    before: &str,
+    number: u64,
+    after: &str,
+) -> Result<(), AllocError>
+    ensures { OnOk result (string_bytes text.new
+        ≡ string_bytes text.old ++ (before.now ++ (decimal number ++ after.now))) }
+{
+    write!(text, "{before}{number}{after}")
+}
+
 /// Appends how large the code or the data area is, if a number has to be within it.
+#[tactic(auto, unfolding(crate::specs::FileFaults::size_text))]
 fn push_size(text: &mut String, role: Role, code: u64, words: u64) -> Result<(), AllocError>
     ensures { OnOk result (string_bytes text.new ≡ string_bytes text.old ++ size_text role code words) }
 {
     match role {
-        Role::WithinCode => write!(text, ", and the code has {code} bytes"),
-        Role::WithinData => write!(text, ", and the data area has {words} words"),
+        Role::WithinCode => push_numbered(text, ", and the code has ", code, " bytes"),
+        Role::WithinData => push_numbered(text, ", and the data area has ", words, " words"),
         _ => text.push_str(""),
     }
 }
 
 /// Appends which field has a value that may not be there, and what is wanted of it.
+#[tactic(auto, unfolding(crate::specs::FileFaults::range_text))]
 fn push_range(text: &mut String, walk: Walk, value: u64) -> Result<(), AllocError>
     ensures { OnOk result (string_bytes text.new ≡ string_bytes text.old ++ range_text walk value) }
 {
@@ -110,12 +130,13 @@ fn push_limit(text: &mut String, walk: Walk, value: u64) -> Result<(), AllocErro
     ensures { OnOk result (string_bytes text.new ≡ string_bytes text.old ++ limit_text walk value) }
 {
     let limit = limit_of(walk.is_two, field_of(walk.field).role);
+    let words = words_of(LIMIT);
     push_has(text, walk, value)?;
-    text.push_str(words_of(LIMIT))?;
-    write!(text, "{limit}")
+    write!(text, "{words}{limit}")
 }
 
 /// Appends how many bytes come after the last row.
+#[tactic(auto, unfolding(crate::specs::FileFaults::left_text))]
 fn push_left(text: &mut String, count: usize) -> Result<(), AllocError>
     ensures { OnOk result (string_bytes text.new ≡ string_bytes text.old ++ left_text count) }
 {
@@ -123,6 +144,7 @@ fn push_left(text: &mut String, count: usize) -> Result<(), AllocError>
 }
 
 /// Appends why a file is no module, by the number of its fault, at the field that was found.
+#[tactic(auto, unfolding(crate::specs::FileFaults::why))]
 fn push_why(
     text: &mut String,
     bytes: &[u8],

@@ -75,8 +75,8 @@ pub(crate) fn last_that<'l, 'a>(
 fn mark_of(tokens: &[Token<'_>]) -> Option<Mark>
     ensures { result ≡ mark_of (terminals_of tokens.now) }
 {
-    match first(tokens)? {
-        (TokenKind::Mark(mark), _) => Some(mark),
+    match first(tokens) {
+        Some((TokenKind::Mark(mark), _)) => Some(mark),
         _ => None,
     }
 }

@@ -54,8 +54,8 @@ fn joint_at<'t, 'a>(tokens: &'t [Token<'a>]) -> Option<(Joint, &'t [Token<'a>])>
     ensures found { option_map (λ x. (x.0, terminals_of x.1.now)) result ≡ joint_at (terminals_of tokens.now) }
     ensures within { IfSome result (λ x. length x.1.now ≤ length tokens.now) }
 {
-    match first(tokens)? {
-        (TokenKind::Mark(mark), rest) => Some((joint_of(mark)?, rest)),
+    match first(tokens) {
+        Some((TokenKind::Mark(mark), rest)) => Some((joint_of(mark)?, rest)),
         _ => None,
     }
 }
@@ -66,8 +66,8 @@ fn prefix_at<'t, 'a>(tokens: &'t [Token<'a>]) -> Option<&'t [Token<'a>]>
     ensures found { option_map (λ rest. terminals_of rest.now) result ≡ prefix_at (terminals_of tokens.now) }
     ensures within { IfSome result (λ rest. length rest.now ≤ length tokens.now) }
 {
-    match first(tokens)? {
-        (TokenKind::Mark(Mark::BitNot | Mark::Not | Mark::Subtract), rest) => Some(rest),
+    match first(tokens) {
+        Some((TokenKind::Mark(Mark::BitNot | Mark::Not | Mark::Subtract), rest)) => Some(rest),
         _ => None,
     }
 }

@@ -13,36 +13,39 @@ macro_rules! lacked {
 
 /// The words, each with what to write in its place: those that begin a construct, of types, of declarations, and between
 /// or before operands.
+const LACKED_WORDS: [(&str, &str); 25] = [
+    lacked!("WHILE" "; a loop has a constant count: SEQ i = 0 FOR n"),
+    lacked!("CASE" "; write an IF whose choices are as x = 1"),
+    lacked!("PRI" "; write ALT or PAR"),
+    lacked!("PLACED" "; each processor has its own module"),
+    lacked!("BOOL" "; write INT, with 1 and 0"),
+    lacked!("TIMER" ", and knows no time"),
+    lacked!("PORT" "; channels alone lead out"),
+    lacked!("REAL32" "; its types are INT and BYTE"),
+    lacked!("REAL64" "; its types are INT and BYTE"),
+    lacked!("INT16" "; its types are INT and BYTE"),
+    lacked!("INT32" "; its types are INT and BYTE"),
+    lacked!("INT64" "; its types are INT and BYTE"),
+    lacked!("FUNCTION" "; write a PROC with a parameter for the result"),
+    lacked!("VALOF" "; write a PROC with a parameter for the result"),
+    lacked!("RESULT" "; write a PROC with a parameter for the result"),
+    lacked!("PROTOCOL" "; the messages of a channel are INT or BYTE"),
+    lacked!("RETYPES" "; INT x and BYTE x are conversions"),
+    lacked!("PLACE" "; the links are the parameters of main"),
+    lacked!("REM" "; write x \\ y"),
+    lacked!("SIZE" "; write the number, or a constant"),
+    lacked!("AFTER" "; write (x MINUS y) > 0"),
+    lacked!("FROM" "; write a SEQ over the elements"),
+    lacked!("BITAND" "; write x /\\ y"),
+    lacked!("BITOR" "; write x \\/ y"),
+    lacked!("BITNOT" "; write ~x"),
+];
+
+/// The words, as rows of a table.
 fn lacked_words() -> [(&'static str, &'static str); 25]
     ensures { map row_of result ≡ lacked_words }
 {
-    [
-        lacked!("WHILE" "; a loop has a constant count: SEQ i = 0 FOR n"),
-        lacked!("CASE" "; write an IF whose choices are as x = 1"),
-        lacked!("PRI" "; write ALT or PAR"),
-        lacked!("PLACED" "; each processor has its own module"),
-        lacked!("BOOL" "; write INT, with 1 and 0"),
-        lacked!("TIMER" ", and knows no time"),
-        lacked!("PORT" "; channels alone lead out"),
-        lacked!("REAL32" "; its types are INT and BYTE"),
-        lacked!("REAL64" "; its types are INT and BYTE"),
-        lacked!("INT16" "; its types are INT and BYTE"),
-        lacked!("INT32" "; its types are INT and BYTE"),
-        lacked!("INT64" "; its types are INT and BYTE"),
-        lacked!("FUNCTION" "; write a PROC with a parameter for the result"),
-        lacked!("VALOF" "; write a PROC with a parameter for the result"),
-        lacked!("RESULT" "; write a PROC with a parameter for the result"),
-        lacked!("PROTOCOL" "; the messages of a channel are INT or BYTE"),
-        lacked!("RETYPES" "; INT x and BYTE x are conversions"),
-        lacked!("PLACE" "; the links are the parameters of main"),
-        lacked!("REM" "; write x \\ y"),
-        lacked!("SIZE" "; write the number, or a constant"),
-        lacked!("AFTER" "; write (x MINUS y) > 0"),
-        lacked!("FROM" "; write a SEQ over the elements"),
-        lacked!("BITAND" "; write x /\\ y"),
-        lacked!("BITOR" "; write x \\/ y"),
-        lacked!("BITNOT" "; write ~x"),
-    ]
+    LACKED_WORDS
 }
 
 /// The row of a word, if it has one.

@@ -195,7 +195,7 @@ fn push_source(
 }
 
 /// What is written of a source that has no lines of tokens: the place, the reason, the line, and a hint. The path is
-/// that of the source. There is no text where [`layout_reason`] has no reason.
+/// that of the source. There is no text where the source has no such line, or the line is not at fault.
 pub fn layout_text(
     alloc: Global,
     path: &str,

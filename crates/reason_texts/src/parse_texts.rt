@@ -477,7 +477,7 @@ pub fn line_of<'l, 'a>(number: u32, lines: &'l [Line<'a>]) -> Option<&'l Line<'a
 }
 
 /// What is written of lines of a source that are no program: the place, the reason, the line, and a hint. The path is
-/// that of the source. There is no text where [`parse_reason`] has no reason, or the source has no such line.
+/// that of the source. There is no text where the line is not at fault so, or the source has no such line.
 pub fn parse_text(
     alloc: Global,
     path: &str,

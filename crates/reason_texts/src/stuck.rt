@@ -81,8 +81,8 @@ pub(crate) fn behind<'t, 'a>(mark: Mark, tokens: &'t [Token<'a>]) -> Option<&'t 
     ensures behind { option_map (λ rest. terminals_of rest.now) result ≡ behind mark (terminals_of tokens.now) }
     ensures shorter { IfSome result (λ rest. length rest.now < length tokens.now) }
 {
-    match first(tokens)? {
-        (TokenKind::Mark(found), rest) if found == mark => Some(rest),
+    match first(tokens) {
+        Some((TokenKind::Mark(found), rest)) if found == mark => Some(rest),
         _ => None,
     }
 }

@@ -9,5 +9,6 @@ pub mod Sharing
 pub mod Passing
 pub mod Types
 pub mod Sentences
+pub mod Phrases
 pub mod Hints
 pub mod UsageTexts

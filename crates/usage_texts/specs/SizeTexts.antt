@@ -10,8 +10,17 @@ use Rattle.usage_texts.specs.Views.{Seen, quoted_in, array_before}
 use Rattle.usage_texts.specs.Words.{ends_text, numbers_text}
 
 -- the index in the last turn
-abbrev pub last_index : ℤ → ℤ → ℤ
+unfoldable pub last_index : ℤ → ℤ → ℤ
 last_index base count = base +ℤ count -ℤ pos 1
+
+-- that there is no such index
+unfoldable pub last_index_text : ℤ → Text
+last_index_text last =
+    codes "the last index is " ++ (signed_decimal last ++ (codes ", but " ++ numbers_text types.Int))
+
+-- that too much is gone over
+unfoldable pub large_text : Text
+large_text = codes "up to here more than 8388608 is gone over"
 
 -- the same of subscripts and sizes
 unfoldable pub size_sentence : Seen → Tokens → Why → Text
@@ -19,9 +28,8 @@ size_sentence v t (why.SizeBelowOne size) =
     codes "the size is " ++ (signed_decimal size ++ codes ", but an array has one element at least")
 size_sentence v t (why.CountBelowZero count) =
     codes "the count is " ++ (signed_decimal count ++ codes ", but 0 is the least")
-size_sentence v t (why.LastIndex base count) =
-    codes "the last index is " ++ (signed_decimal (last_index base count) ++ (codes ", but " ++ numbers_text types.Int))
+size_sentence v t (why.LastIndex base count) = last_index_text (last_index base count)
 size_sentence v t (why.Outside size subscript) =
     quoted_in v t ++ (codes " is " ++ (ends_text subscript.lo subscript.hi ++ (codes ", but the elements of "
     ++ (quoted_in v (array_before t) ++ (codes " are 0.." ++ signed_decimal (pos size -ℤ pos 1))))))
-size_sentence v t w = codes "up to here more than 8388608 is gone over"
+size_sentence v t w = large_text

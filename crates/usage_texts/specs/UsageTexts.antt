@@ -13,21 +13,29 @@ use Rattle.usage_reasons.specs.declared.reason.Reason.{Reason}
 use Rattle.usage_reasons.specs.declared.reason.Tokens.{Tokens}
 use Rattle.usage_reasons.specs.declared.reason.Why.{Why}
 use Rattle.usage_reasons.specs.declared.reason.Why.TheVariants as why
+use Rattle.word_arithmetic.specs.declared.ranges.Range.{Range}
 use Rattle.usage_texts.specs.Hints.{hint}
 use Rattle.usage_texts.specs.KnownTexts.{known_text}
 use Rattle.usage_texts.specs.Sentences.{sentence_text}
 use Rattle.usage_texts.specs.Views.{Seen, span_in, has_tokens}
 use Rattle.usage_texts.specs.Words.{ends_text}
 
+-- where an operand lies
+unfoldable pub operand_text : Range → Text
+operand_text right = codes "  the operand is " ++ (ends_text right.lo right.hi ++ codes "\n")
+
+-- where two operands lie
+unfoldable pub operands_text : Range → Range → Text
+operands_text left right =
+    codes "  the operands are " ++ (ends_text left.lo left.hi ++ (codes " and " ++ (ends_text right.lo right.hi
+    ++ codes "\n")))
+
 -- what else is known that a reason speaks of: the name that is shared, or the operands
 abbrev pub more_text : Why → Text
 more_text (why.SharedVariable variable first first_deed second second_deed) = known_text variable
 more_text (why.SharedChannel channel element direction first second) = known_text channel
-more_text (why.Overflow operator.Negate left right results) =
-    codes "  the operand is " ++ (ends_text right.lo right.hi ++ codes "\n")
-more_text (why.Overflow o left right results) =
-    codes "  the operands are " ++ (ends_text left.lo left.hi ++ (codes " and " ++ (ends_text right.lo right.hi
-    ++ codes "\n")))
+more_text (why.Overflow operator.Negate left right results) = operand_text right
+more_text (why.Overflow o left right results) = operands_text left right
 more_text w = []
 
 -- where and why

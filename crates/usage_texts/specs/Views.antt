@@ -28,16 +28,10 @@ span_in line part = line_span line.offset (tokens_in line.tokens part)
 abbrev pub bytes_at : List ℕ → Span → List ℕ
 bytes_at line span = meant line span.at span.len
 
--- the bytes of tokens of a line, of which at most 100 are shown
-unfoldable pub bytes_in : Seen → Tokens → List ℕ
-bytes_in line part = bytes_at line.bytes (span_in line part)
-
--- what ends them
-unfoldable pub end_in : Seen → Tokens → Text
-end_in line part = closing_quote (span_in line part).len
-
-abbrev pub quoted_in : Seen → Tokens → Text
-quoted_in line part = quoted_text (bytes_in line part) (end_in line part)
+-- the bytes of tokens of a line in quotes, of which at most 100 are shown
+unfoldable pub quoted_in : Seen → Tokens → Text
+quoted_in line part =
+    quoted_text (bytes_at line.bytes (span_in line part)) (closing_quote (span_in line part).len)
 
 -- the name of the array whose subscript these tokens are: a bracket is between them
 abbrev pub array_before : Tokens → Tokens

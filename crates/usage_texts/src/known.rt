@@ -1,40 +1,57 @@
 //! What is known of a name, in a line.
 
-ghost use Rattle.std.specs.Prelude.{◌≡◌, ◌++◌, OnOk, Some, string_bytes};
+ghost use Rattle.std.specs.Prelude.{◌≡◌, ◌++◌, OnOk, string_bytes};
 ghost use Rattle.std.specs.List.{flat_map};
-ghost use Rattle.usage_texts.specs.KnownTexts.{known_text};
+ghost use Rattle.usage_texts.specs.KnownTexts.{bare_text, known_text, valued_text};
+ghost use Rattle.usage_texts.specs.Phrases.{phrase_text};
+ghost use Rattle.usage_texts.specs.Texts.{shown_text};
+ghost use Rattle.usage_texts.specs.Words.{shape_text};
 
-use crate::shown::Shown;
-use crate::words::{ShapeText, of_range};
+use crate::phrases::{Phrase, push_phrases, range_phrase};
 use scalar_ranges::Meaning;
 use std::alloc::AllocError;
-use std::fmt;
 use usage_reasons::KnownName;
 
-/// What a name denotes, the range or the value that is known of it, and the line that declares it.
-#[derive(Clone, Copy)]
-pub(crate) struct KnownText<'k>(pub(crate) KnownName<'k>);
+/// Appends a name with its value or its range.
+fn push_valued<'k>(
+    text: &mut String,
+    known: KnownName<'k>,
+    value: Phrase<'k>,
+) -> Result<(), AllocError>
+    ensures { OnOk result (string_bytes text.new ≡ string_bytes text.old
+        ++ valued_text (shown_text known.entry.name.now) (phrase_text value.entry) (shape_text known.entry.meaning)
+        known.entry.line) }
+{
+    push_phrases(
+        text,
+        phrases!("  " (Phrase::Shown(known.name)) " is " value " (" (Phrase::Shape(known.meaning))
+            ", line " (Phrase::Count(known.line)) ")\n"),
+    )
+}
 
-impl fmt::Display for KnownText<'_> {
-    ghost output = { λ known. Some (known_text known.0) };
+/// Appends a name of which no value and no range is known.
+fn push_bare(text: &mut String, known: KnownName<'_>) -> Result<(), AllocError>
+    ensures { OnOk result (string_bytes text.new ≡ string_bytes text.old
+        ++ bare_text (shown_text known.entry.name.now) (shape_text known.entry.meaning) known.entry.line) }
+{
+    push_phrases(
+        text,
+        phrases!("  " (Phrase::Shown(known.name)) " is " (Phrase::Shape(known.meaning)) " (line "
+            (Phrase::Count(known.line)) ")\n"),
+    )
+}
 
-    fn fmt<W: fmt::Write>(&self, f: &mut fmt::Formatter<W>) -> fmt::Result {
-        let KnownName {
-            name,
-            meaning,
-            line,
-        } = self.0;
-        let (name, shape) = (Shown(name), ShapeText(meaning));
-        match meaning {
-            Meaning::Constant {
-                value: Some(value),
-                ..
-            } => { writeln!(f, "  {name} is {value} ({shape}, line {line})") }
-            Meaning::Scalar { range, .. } => {
-                writeln!(f, "  {name} is {} ({shape}, line {line})", of_range(range))
-            }
-            _ => writeln!(f, "  {name} is {shape} (line {line})"),
-        }
+/// Appends what a name denotes, the range or the value that is known of it, and the line that declares it.
+pub(crate) fn push_known_name(text: &mut String, known: KnownName<'_>) -> Result<(), AllocError>
+    ensures { OnOk result (string_bytes text.new ≡ string_bytes text.old ++ known_text known.entry) }
+{
+    match known.meaning {
+        Meaning::Constant {
+            value: Some(value),
+            ..
+        } => push_valued(text, known, Phrase::Number(i64::from(value))),
+        Meaning::Scalar { range, .. } => push_valued(text, known, range_phrase(range)),
+        _ => push_bare(text, known),
     }
 }
 
@@ -43,7 +60,7 @@ pub(crate) fn push_known(text: &mut String, names: &[KnownName<'_>]) -> Result<(
     ensures { OnOk result (string_bytes text.new ≡ string_bytes text.old ++ flat_map known_text names.now) }
 {
     for known in names {
-        write!(text, "{}", KnownText(*known))?;
+        push_known_name(text, *known)?;
     }
     Ok(())
 }

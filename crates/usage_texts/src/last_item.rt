@@ -1,36 +1,49 @@
 //! What is in place of `main`, in a sentence.
 
-ghost use Rattle.std.specs.Prelude.{Some};
-ghost use Rattle.usage_texts.specs.LastItems.{last_item_sentence};
+ghost use Rattle.std.specs.Prelude.{◌≡◌, ◌++◌, OnOk, string_bytes};
+ghost use Rattle.usage_texts.specs.LastItems.{last_item_sentence, no_main_text};
+ghost use Rattle.usage_texts.specs.Phrases.{phrase_text};
 ghost use Rattle.usage_texts.specs.Views.{seen};
 
-use crate::ranges::RangeSentence;
+use crate::phrases::{Phrase, push_phrases};
+use crate::ranges::push_range_sentence;
 use crate::sentence::Sentence;
-use std::fmt;
+use std::alloc::AllocError;
 use usage_reasons::{LastItem, Why};
 
-/// The same as [`Sentence`], for what is in place of `main`, and what comes after it.
-#[derive(Clone, Copy)]
-pub(crate) struct LastItemSentence<'v, 'a, 'k>(pub(crate) Sentence<'v, 'a, 'k>);
+/// Appends what is in place of `main`, where these tokens are meant.
+fn push_no_main(text: &mut String, it: Phrase<'_>, item: LastItem) -> Result<(), AllocError>
+    ensures { OnOk result (string_bytes text.new ≡ string_bytes text.old
+        ++ no_main_text (phrase_text it.entry) item) }
+{
+    match item {
+        LastItem::Missing => text.push_str("there is no procedure `main`"),
+        LastItem::Constant => text.push_str(
+            "the last item is a constant, but the procedure `main` was wanted",
+        ),
+        LastItem::OtherName => push_phrases(
+            text,
+            phrases!("the last procedure is " it ", but `main` was wanted"),
+        ),
+        LastItem::NoLink => push_phrases(
+            text,
+            phrases!("the parameter " it " of `main` is no link"),
+        ),
+    }
+}
 
-impl fmt::Display for LastItemSentence<'_, '_, '_> {
-    ghost output = { λ sentence. Some (last_item_sentence (seen sentence.0.view) sentence.0.tokens sentence.0.why) };
-
-    #[tactic(auto, unfolding(crate::specs::LastItems::last_item_sentence))]
-    fn fmt<W: fmt::Write>(&self, f: &mut fmt::Formatter<W>) -> fmt::Result {
-        let Sentence { view, tokens, why } = self.0;
-        let it = view.quoted(tokens);
-        match why {
-            Why::NoMain(LastItem::Missing) => write!(f, "there is no procedure `main`"),
-            Why::NoMain(LastItem::Constant) => write!(
-                f,
-                "the last item is a constant, but the procedure `main` was wanted"
-            ),
-            Why::NoMain(LastItem::OtherName) => {
-                write!(f, "the last procedure is {it}, but `main` was wanted")
-            }
-            Why::NoMain(LastItem::NoLink) => write!(f, "the parameter {it} of `main` is no link"),
-            _ => write!(f, "{}", RangeSentence(self.0)),
-        }
+/// Appends the same as [`push_sentence`](crate::sentence::push_sentence), for what is in place of `main`, and what comes
+/// after it.
+#[tactic(auto, unfolding(crate::specs::LastItems::last_item_sentence))]
+pub(crate) fn push_last_item_sentence(
+    text: &mut String,
+    sentence: Sentence<'_, '_>,
+) -> Result<(), AllocError>
+    ensures { OnOk result (string_bytes text.new ≡ string_bytes text.old
+        ++ last_item_sentence (seen sentence.entry.view) sentence.entry.tokens sentence.entry.why) }
+{
+    match sentence.why {
+        Why::NoMain(item) => push_no_main(text, sentence.meant(), item),
+        _ => push_range_sentence(text, sentence),
     }
 }

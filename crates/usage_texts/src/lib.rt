@@ -1,14 +1,32 @@
 //! What is written of a program that breaks a usage rule: where, why, the line, and what is known of its names.
 #![tactic(auto)]
 
+/// A part of a sentence: these words, or another [`Phrase`](phrases::Phrase).
+macro_rules! phrase {
+    ($words:literal) => {
+        Phrase::Words($words)
+    };
+    ($phrase:expr) => {
+        $phrase
+    };
+}
+
+/// The parts of a sentence, each a literal, a name, or in parentheses.
+macro_rules! phrases {
+    ($($part:tt)*) => {
+        &[$(phrase!($part)),*]
+    };
+}
+
 mod hints;
 mod known;
 mod last_item;
 mod passing;
+mod phrases;
 mod ranges;
 mod sentence;
+mod shapes;
 mod sharing;
-mod shown;
 mod sizes;
 mod text;
 mod types;

@@ -1,15 +1,15 @@
 //! What is passed to a procedure, in a sentence.
 
-ghost use Rattle.std.specs.Prelude.{◌≡◌, Some};
+ghost use Rattle.std.specs.Prelude.{◌≡◌, ◌++◌, OnOk, string_bytes};
 ghost use Rattle.usage_texts.specs.Passing.{unpassed, passing_sentence};
 ghost use Rattle.usage_texts.specs.Views.{seen};
 
+use crate::phrases::{Phrase, push_phrases};
 use crate::sentence::Sentence;
-use crate::sharing::SharingSentence;
+use crate::sharing::push_sharing_sentence;
 use crate::view::first_of;
-use crate::words::{Counted, ShapeText};
 use scalar_ranges::ExprType;
-use std::fmt;
+use std::alloc::AllocError;
 use usage_reasons::Why;
 
 /// What an actual is that is not taken, by its type if it is an expression.
@@ -24,44 +24,41 @@ fn unpassed(found: Option<ExprType>) -> &'static str
     }
 }
 
-/// The same as [`Sentence`], for what is passed to a procedure, and what comes after it.
-#[derive(Clone, Copy)]
-pub(crate) struct PassingSentence<'v, 'a, 'k>(pub(crate) Sentence<'v, 'a, 'k>);
-
-impl fmt::Display for PassingSentence<'_, '_, '_> {
-    ghost output = { λ sentence. Some (passing_sentence (seen sentence.0.view) sentence.0.tokens sentence.0.why) };
-
-    #[tactic(auto, unfolding(crate::specs::Passing::passing_sentence))]
-    fn fmt<W: fmt::Write>(&self, f: &mut fmt::Formatter<W>) -> fmt::Result {
-        let Sentence { view, tokens, why } = self.0;
-        let it = view.quoted(tokens);
-        match why {
-            Why::OtherCount {
-                actuals,
-                parameters,
-            } => write!(
-                f,
-                "{} has {}, but is passed {}",
-                view.quoted(first_of(tokens)),
-                Counted(parameters, "parameter"),
-                Counted(actuals, "actual")
-            ),
-            Why::NotTaken {
-                parameter,
-                found,
-                ..
-            } => write!(
-                f,
-                "{it} {} to a parameter {}",
-                unpassed(found),
-                ShapeText(parameter)
-            ),
-            Why::PassedTwice { first } => write!(
-                f,
-                "{it} is passed twice in one instance, first as {}",
-                view.quoted(first)
-            ),
-            _ => write!(f, "{}", SharingSentence(self.0)),
-        }
+/// Appends the same as [`push_sentence`](crate::sentence::push_sentence), for what is passed to a procedure, and what comes
+/// after it.
+#[tactic(auto, unfolding(crate::specs::Passing::passing_sentence))]
+pub(crate) fn push_passing_sentence(
+    text: &mut String,
+    sentence: Sentence<'_, '_>,
+) -> Result<(), AllocError>
+    ensures { OnOk result (string_bytes text.new ≡ string_bytes text.old
+        ++ passing_sentence (seen sentence.entry.view) sentence.entry.tokens sentence.entry.why) }
+{
+    let it = sentence.meant();
+    match sentence.why {
+        Why::OtherCount {
+            actuals,
+            parameters,
+        } => push_phrases(
+            text,
+            phrases!((sentence.view.quoted(first_of(sentence.tokens))) " has "
+                (Phrase::Counted(parameters, "parameter")) ", but is passed "
+                (Phrase::Counted(actuals, "actual"))),
+        ),
+        Why::NotTaken {
+            parameter,
+            found,
+            ..
+        } => push_phrases(
+            text,
+            phrases!(it " " (Phrase::Words(unpassed(found))) " to a parameter "
+                (Phrase::Shape(parameter))),
+        ),
+        Why::PassedTwice { first } => push_phrases(
+            text,
+            phrases!(it " is passed twice in one instance, first as "
+                (sentence.view.quoted(first))),
+        ),
+        _ => push_sharing_sentence(text, sentence),
     }
 }

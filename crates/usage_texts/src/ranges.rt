@@ -1,14 +1,15 @@
 //! What an operator or a conversion may come to, in a sentence.
 
-ghost use Rattle.std.specs.Prelude.{◌≡◌, Some};
+ghost use Rattle.std.specs.Prelude.{◌≡◌, ◌++◌, OnOk, string_bytes};
 ghost use Rattle.usage_texts.specs.RangeTexts.{divisor_text, has_zero, range_sentence};
 ghost use Rattle.usage_texts.specs.Views.{seen};
 
+use crate::phrases::{Ends, Phrase, push_phrases, range_phrase};
 use crate::sentence::Sentence;
-use crate::sizes::SizeSentence;
-use crate::words::{Ends, numbers_text, of_range};
+use crate::sizes::push_size_sentence;
+use crate::words::numbers_text;
 use occam_parser::ValueType;
-use std::fmt;
+use std::alloc::AllocError;
 use usage_reasons::Why;
 use word_arithmetic::Range;
 
@@ -30,50 +31,41 @@ fn divisor_text(divisor: Range) -> &'static str
     }
 }
 
-/// The same as [`Sentence`], for operators and conversions, and what comes after it.
-#[derive(Clone, Copy)]
-pub(crate) struct RangeSentence<'v, 'a, 'k>(pub(crate) Sentence<'v, 'a, 'k>);
-
-impl fmt::Display for RangeSentence<'_, '_, '_> {
-    ghost output = { λ sentence. Some (range_sentence (seen sentence.0.view) sentence.0.tokens sentence.0.why) };
-
-    #[tactic(auto, unfolding(crate::specs::RangeTexts::range_sentence))]
-    fn fmt<W: fmt::Write>(&self, f: &mut fmt::Formatter<W>) -> fmt::Result {
-        let Sentence { view, tokens, why } = self.0;
-        let it = view.quoted(tokens);
-        match why {
-            Why::Overflow { results, .. } => write!(
-                f,
-                "{it} is {}, but {}",
-                Ends {
-                    lo: results.lo,
-                    hi: results.hi
-                },
-                numbers_text(ValueType::Int)
-            ),
-            Why::Division {
-                dividend,
-                divisor,
-                ..
-            } => write!(
-                f,
-                "{it} divides {} by {}, {}",
-                of_range(dividend),
-                of_range(divisor),
-                divisor_text(divisor)
-            ),
-            Why::ShiftCount { count } => write!(
-                f,
-                "{it} shifts by {}, but a word is shifted by 0..31",
-                of_range(count)
-            ),
-            Why::Conversion { to, operand } => write!(
-                f,
-                "{it} converts {}, but {}",
-                of_range(operand),
-                numbers_text(to)
-            ),
-            _ => write!(f, "{}", SizeSentence(self.0)),
-        }
+/// Appends the same as [`push_sentence`](crate::sentence::push_sentence), for operators and conversions, and what comes
+/// after it.
+#[tactic(auto, unfolding(crate::specs::RangeTexts::range_sentence))]
+pub(crate) fn push_range_sentence(
+    text: &mut String,
+    sentence: Sentence<'_, '_>,
+) -> Result<(), AllocError>
+    ensures { OnOk result (string_bytes text.new ≡ string_bytes text.old
+        ++ range_sentence (seen sentence.entry.view) sentence.entry.tokens sentence.entry.why) }
+{
+    let it = sentence.meant();
+    match sentence.why {
+        Why::Overflow { results, .. } => push_phrases(
+            text,
+            phrases!(it " is " (Phrase::Range(Ends { lo: results.lo, hi: results.hi, })) ", but "
+                (Phrase::Words(numbers_text(ValueType::Int)))),
+        ),
+        Why::Division {
+            dividend,
+            divisor,
+            ..
+        } => push_phrases(
+            text,
+            phrases!(it " divides " (range_phrase(dividend)) " by " (range_phrase(divisor)) ", "
+                (Phrase::Words(divisor_text(divisor)))),
+        ),
+        Why::ShiftCount { count } => push_phrases(
+            text,
+            phrases!(it " shifts by " (range_phrase(count)) ", but a word is shifted by 0..31"),
+        ),
+        Why::Conversion { to, operand } => push_phrases(
+            text,
+            phrases!(it " converts " (range_phrase(operand)) ", but "
+                (Phrase::Words(numbers_text(to)))),
+        ),
+        _ => push_size_sentence(text, sentence),
     }
 }

@@ -1,47 +1,59 @@
 //! What is written of a program that breaks a usage rule.
 
-ghost use Rattle.std.specs.Prelude.{◌≡◌, ◌++◌, ◌<◌, ◌^◌, IfOk, OnOk, Some, option_map, string_bytes};
+ghost use Rattle.std.specs.Prelude.{◌≡◌, ◌++◌, ◌<◌, ◌^◌, IfOk, OnOk, option_map, string_bytes};
 ghost use Rattle.std.specs.List.{flat_map};
 ghost use Rattle.usage_texts.specs.Views.{seen};
 ghost use Rattle.usage_texts.specs.KnownTexts.{known_text};
-ghost use Rattle.usage_texts.specs.UsageTexts.{more_text, head_text, rest_text, tail_text, whole_text, line_text};
-ghost use Rattle.usage_texts.specs.UsageTexts.{has_no_items, missing_text, usage_text};
+ghost use Rattle.usage_texts.specs.UsageTexts.{operand_text, operands_text, more_text, head_text, rest_text};
+ghost use Rattle.usage_texts.specs.UsageTexts.{tail_text, whole_text, line_text, has_no_items, missing_text, usage_text};
 
 use crate::hints::hint;
-use crate::known::{KnownText, push_known};
-use crate::sentence::Sentence;
+use crate::known::{push_known, push_known_name};
+use crate::phrases::{Phrase, push_phrases, range_phrase};
+use crate::sentence::{Sentence, push_sentence};
 use crate::view::{View, has_tokens};
-use crate::words::of_range;
 use occam_layout::Line;
-use reason_texts::{Span, find_line, line_of, push_block, push_hint, push_place};
+use reason_texts::{Span, find_line, line_of, push_block, push_hint, push_number, push_place};
 use std::alloc::{AllocError, Global};
-use std::fmt;
 use usage_reasons::{LastItem, Operator, Reason, Why};
+use word_arithmetic::Range;
 
-/// What else is known that a reason speaks of: the name that is shared, or the operands.
-#[derive(Clone, Copy)]
-struct MoreText<'k>(Why<'k>);
+/// Appends where an operand lies.
+#[tactic(auto, unfolding(crate::specs::UsageTexts::operand_text))]
+fn push_operand(text: &mut String, right: Range) -> Result<(), AllocError>
+    ensures { OnOk result (string_bytes text.new ≡ string_bytes text.old ++ operand_text right) }
+{
+    push_phrases(
+        text,
+        phrases!("  the operand is " (range_phrase(right)) "\n"),
+    )
+}
 
-impl fmt::Display for MoreText<'_> {
-    ghost output = { λ more. Some (more_text more.0) };
+/// Appends where two operands lie.
+#[tactic(auto, unfolding(crate::specs::UsageTexts::operands_text))]
+fn push_operands(text: &mut String, left: Range, right: Range) -> Result<(), AllocError>
+    ensures { OnOk result (string_bytes text.new ≡ string_bytes text.old ++ operands_text left right) }
+{
+    push_phrases(
+        text,
+        phrases!("  the operands are " (range_phrase(left)) " and " (range_phrase(right)) "\n"),
+    )
+}
 
-    fn fmt<W: fmt::Write>(&self, f: &mut fmt::Formatter<W>) -> fmt::Result {
-        match self.0 {
-            Why::SharedVariable { variable, .. } => write!(f, "{}", KnownText(variable)),
-            Why::SharedChannel { channel, .. } => write!(f, "{}", KnownText(channel)),
-            Why::Overflow {
-                operator: Operator::Negate,
-                right,
-                ..
-            } => writeln!(f, "  the operand is {}", of_range(right)),
-            Why::Overflow { left, right, .. } => writeln!(
-                f,
-                "  the operands are {} and {}",
-                of_range(left),
-                of_range(right)
-            ),
-            _ => write!(f, ""),
-        }
+/// Appends what else is known that a reason speaks of: the name that is shared, or the operands.
+fn push_more(text: &mut String, why: Why<'_>) -> Result<(), AllocError>
+    ensures { OnOk result (string_bytes text.new ≡ string_bytes text.old ++ more_text why.entry) }
+{
+    match why {
+        Why::SharedVariable { variable, .. } => push_known_name(text, variable),
+        Why::SharedChannel { channel, .. } => push_known_name(text, channel),
+        Why::Overflow {
+            operator: Operator::Negate,
+            right,
+            ..
+        } => push_operand(text, right),
+        Why::Overflow { left, right, .. } => push_operands(text, left, right),
+        _ => text.push_str(""),
     }
 }
 
@@ -52,7 +64,7 @@ fn push_head(
     path: &str,
     line: u32,
     at: usize,
-    sentence: Sentence<'_, '_, '_>,
+    sentence: Sentence<'_, '_>,
     number: u8,
 ) -> Result<(), AllocError>
     requires { at < 2 ^ 32 }
@@ -60,8 +72,8 @@ fn push_head(
         ++ head_text path.now line at (seen sentence.entry.view) sentence.entry.tokens sentence.entry.why number) }
 {
     push_place(text, path, line, at)?;
-    writeln!(text, "{sentence} (O{number})")?;
-    Ok(())
+    push_sentence(text, sentence)?;
+    push_number(text, number)
 }
 
 /// Appends what else is known, and what to write in a line's place.
@@ -69,9 +81,8 @@ fn push_head(
 fn push_rest(text: &mut String, why: Why<'_>) -> Result<(), AllocError>
     ensures { OnOk result (string_bytes text.new ≡ string_bytes text.old ++ rest_text why.entry) }
 {
-    write!(text, "{}", MoreText(why))?;
-    push_hint(text, hint(why))?;
-    Ok(())
+    push_more(text, why)?;
+    push_hint(text, hint(why))
 }
 
 /// Appends a line with carets below tokens, what is known of the names in them, and what to write in its place.
@@ -86,17 +97,16 @@ fn push_tail(
 {
     push_block(text, line, span)?;
     push_known(text, &reason.known)?;
-    push_rest(text, reason.why)?;
-    Ok(())
+    push_rest(text, reason.why)
 }
 
 /// Appends why a line is refused.
 #[tactic(auto, unfolding(crate::specs::UsageTexts::whole_text))]
-fn push_whole(
+fn push_whole<'v>(
     text: &mut String,
     path: &str,
-    view: View<'_, '_>,
-    reason: &Reason<'_>,
+    view: View<'v, '_>,
+    reason: &Reason<'v>,
     number: u8,
 ) -> Result<(), AllocError>
     ensures { OnOk result (string_bytes text.new ≡ string_bytes text.old
@@ -106,8 +116,7 @@ fn push_whole(
     let span = view.span(tokens);
     let sentence = Sentence { view, tokens, why };
     push_head(text, path, reason.line, span.at, sentence, number)?;
-    push_tail(text, view.bytes, span, reason)?;
-    Ok(())
+    push_tail(text, view.bytes, span, reason)
 }
 
 /// Whether there are no items, so that no line is meant.

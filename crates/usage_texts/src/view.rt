@@ -1,9 +1,10 @@
 //! Parts of a line by their tokens.
 
 ghost use Rattle.std.specs.Prelude.{◌≡◌, ◌<◌, ◌^◌};
-ghost use Rattle.usage_texts.specs.Views.{seen, tokens_in, span_in, bytes_in, end_in, array_before, first_of, has_tokens};
+ghost use Rattle.usage_texts.specs.Phrases.{phrase_text};
+ghost use Rattle.usage_texts.specs.Views.{seen, tokens_in, span_in, quoted_in, array_before, first_of, has_tokens};
 
-use crate::shown::Quoted;
+use crate::phrases::{Phrase, Quoted};
 use occam_layout::Token;
 use reason_texts::{Span, closing_quote, line_span, meant};
 use usage_reasons::Tokens;
@@ -37,16 +38,15 @@ impl<'v> View<'v, '_> {
     }
 
     /// The bytes of tokens of the line in quotes, of which at most 100 are shown.
-    #[tactic(auto, unfolding(crate::specs::Views::bytes_in, crate::specs::Views::end_in))]
-    pub(crate) fn quoted(self, part: Tokens) -> Quoted<'v>
-        ensures bytes { result.bytes.now ≡ bytes_in (seen self.entry) part }
-        ensures end { result.end.now ≡ end_in (seen self.entry) part }
+    #[tactic(auto, unfolding(crate::specs::Views::quoted_in))]
+    pub(crate) fn quoted(self, part: Tokens) -> Phrase<'v>
+        ensures { phrase_text result ≡ quoted_in (seen self.entry) part }
     {
         let span = self.span(part);
-        Quoted {
+        Phrase::Quoted(Quoted {
             bytes: meant(self.bytes, span.at, span.len),
             end: closing_quote(span.len),
-        }
+        })
     }
 }
 

@@ -1,51 +1,13 @@
-//! Types, ranges and what else a sentence names.
+//! Types and what else a sentence names, in words.
 
-ghost use Rattle.std.specs.Prelude.{◌≡◌, Some};
-ghost use Rattle.usage_texts.specs.Words.{is_one, ends_text, type_text, numbers_text, found_text, wanted_text, sort_text, deed_text};
-ghost use Rattle.usage_texts.specs.Words.{way_text, counted_text, size_text, shape_text};
+ghost use Rattle.std.specs.Prelude.{◌≡◌};
+ghost use Rattle.usage_texts.specs.Words.{type_text, numbers_text, found_text, wanted_text, sort_text, deed_text};
+ghost use Rattle.usage_texts.specs.Words.{way_text};
 
 use occam_parser::ValueType;
 use program_uses::Direction;
-use scalar_ranges::{ArrayKind, ExprType, Meaning, ScalarKind};
-use std::fmt;
+use scalar_ranges::ExprType;
 use usage_reasons::{Deed, Sort};
-use word_arithmetic::Range;
-
-/// Numbers from the least to the greatest one.
-#[derive(Clone, Copy)]
-pub(crate) struct Ends {
-    pub(crate) lo: i64,
-    pub(crate) hi: i64,
-}
-
-/// Whether two numbers are one.
-fn is_one(lo: i64, hi: i64) -> bool
-    ensures { result ≡ is_one lo hi }
-{
-    lo == hi
-}
-
-impl fmt::Display for Ends {
-    ghost output = { λ ends. Some (ends_text ends.lo ends.hi) };
-
-    fn fmt<W: fmt::Write>(&self, f: &mut fmt::Formatter<W>) -> fmt::Result {
-        let Ends { lo, hi } = *self;
-        if is_one(lo, hi) {
-            return write!(f, "{lo}");
-        }
-        write!(f, "{lo}..{hi}")
-    }
-}
-
-/// The ends of a range.
-pub(crate) fn of_range(range: Range) -> Ends
-    ensures { result ≡ record { lo = range.lo; hi = range.hi } }
-{
-    Ends {
-        lo: i64::from(range.lo),
-        hi: i64::from(range.hi),
-    }
-}
 
 /// A type as it is written.
 pub(crate) fn type_text(value_type: ValueType) -> &'static str
@@ -121,76 +83,5 @@ pub(crate) fn way_text(direction: Direction) -> &'static str
     match direction {
         Direction::Input => "receives from",
         Direction::Output => "sends to",
-    }
-}
-
-/// A number of such things.
-#[derive(Clone, Copy)]
-pub(crate) struct Counted(pub(crate) usize, pub(crate) &'static str);
-
-impl fmt::Display for Counted {
-    ghost output = { λ counted. Some (counted_text counted.0 counted.1.now) };
-
-    fn fmt<W: fmt::Write>(&self, f: &mut fmt::Formatter<W>) -> fmt::Result {
-        let Counted(count, name) = *self;
-        if count == 1 {
-            return write!(f, "1 {name}");
-        }
-        write!(f, "{count} {name}s")
-    }
-}
-
-/// How many elements an array has, if that is known.
-#[derive(Clone, Copy)]
-struct SizeText(Option<u32>);
-
-impl fmt::Display for SizeText {
-    ghost output = { λ size. Some (size_text size.0) };
-
-    fn fmt<W: fmt::Write>(&self, f: &mut fmt::Formatter<W>) -> fmt::Result {
-        match self.0 {
-            Some(size) => write!(f, "[{size}]"),
-            None => write!(f, "[?]"),
-        }
-    }
-}
-
-/// What a name denotes, as it is declared.
-#[derive(Clone, Copy)]
-pub(crate) struct ShapeText(pub(crate) Meaning);
-
-impl fmt::Display for ShapeText {
-    ghost output = { λ shape. Some (shape_text shape.0) };
-
-    fn fmt<W: fmt::Write>(&self, f: &mut fmt::Formatter<W>) -> fmt::Result {
-        match self.0 {
-            Meaning::Constant { value_type, .. } => write!(f, "VAL {}", type_text(value_type)),
-            Meaning::Scalar {
-                kind: ScalarKind::Index,
-                ..
-            } => write!(f, "replicator"),
-            Meaning::Scalar {
-                kind: ScalarKind::Value,
-                value_type,
-                ..
-            } => { write!(f, "VAL {}", type_text(value_type)) }
-            Meaning::Scalar { value_type, .. } => write!(f, "{}", type_text(value_type)),
-            Meaning::Array {
-                kind: ArrayKind::Variable,
-                value_type,
-                size,
-                ..
-            } => { write!(f, "{}{}", SizeText(size), type_text(value_type)) }
-            Meaning::Array {
-                value_type,
-                size,
-                ..
-            } => { write!(f, "VAL {}{}", SizeText(size), type_text(value_type)) }
-            Meaning::Channel { value_type } => write!(f, "CHAN OF {}", type_text(value_type)),
-            Meaning::Channels { value_type, size } => {
-                write!(f, "{}CHAN OF {}", SizeText(size), type_text(value_type))
-            }
-            Meaning::Proc(_) => write!(f, "PROC"),
-        }
     }
 }

@@ -1,9 +1,0 @@
-use Rattle.std.proofs.Common.{map, take}
-use Rattle.std.specs.Fmt.{HasWritten, IsPlainFormatter}
-use Rattle.reason_texts.specs.Blocks.{shown_byte}
-use Rattle.usage_texts.proofs.shown.ShownDisplay.fmt.Given as goal
-
-abbrev pub invariant-loop-byte : goal.invariant-loop-byte
-invariant-loop-byte g l =
-    IsPlainFormatter l.initial.f
-    → HasWritten g.W.Write.write_str_gives l.initial.f (map shown_byte (take l.byte-index l.byte-items)) l.f
