@@ -6,10 +6,30 @@
 //! instead, and prints a checksum of the results: those of `machine_cases` and of `language_cases`.
 #![tactic(auto)]
 
+use command_cases::{Command, CommandCases};
 use conformance::{Calls, Failure, Kind, Report, try_or_repeat, try_text};
+use file_access::Files;
 use std::alloc::Global;
-use std::io;
+use std::io::{self, Write};
 use std::process::ExitCode;
+
+/// `tpm`, as `act` is it.
+struct Tpm;
+
+impl Command for Tpm {
+    const DONE: u8 = tpm_actions::DONE;
+
+    fn act<F: Files, O: Write, E: Write, T: Write + Drop>(
+        alloc: Global,
+        words: &[&str],
+        files: &mut F,
+        out: &mut O,
+        err: &mut E,
+        trace: T,
+    ) -> u8 {
+        tpm_actions::act(alloc, words, files, out, err, trace)
+    }
+}
 
 /// The kinds of cases.
 #[derive(Clone, Copy)]
@@ -36,7 +56,7 @@ impl Kind for About {
             About::Drafts => try_text::<draft_cases::Setting>(alloc, name, text, report),
             About::Machine => try_text::<machine_cases::Setting>(alloc, name, text, report),
             About::Language => try_text::<language_cases::Setting>(alloc, name, text, report),
-            About::Commands => try_text::<command_cases::Setting>(alloc, name, text, report),
+            About::Commands => try_text::<CommandCases<Tpm>>(alloc, name, text, report),
         }
     }
 }

@@ -1,11 +1,11 @@
-//! The files of a folder, as `act` is handed them.
+//! The files of a folder, as a command is handed them.
 
 ghost use Rattle.std.specs.Prelude.{◌≡◌, ⊤, None, false, is_ok, not};
 
 use crate::folder::Folder;
+use file_access::{Extent, FileFault, Files};
 use link_runner::{Failed, LinkReader, LinkWriter};
 use std::alloc::Global;
-use tpm_actions::{Extent, FileFault, Files};
 
 /// A file that is read from its beginning.
 #[derive(Drop)]

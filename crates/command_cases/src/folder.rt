@@ -2,9 +2,9 @@
 
 ghost use Rattle.std.specs.Prelude.{◌≤◌, IfSome, length};
 
+use file_access::{Extent, FileFault, read_beginning};
 use std::alloc::Global;
 use std::cell::RefCell;
-use tpm_actions::{Extent, FileFault, read_beginning};
 
 /// A file with its name.
 #[derive(Drop)]

@@ -1,5 +1,6 @@
 //! What a command line leaves.
 
+use crate::command::Command;
 use crate::files::CaseFiles;
 use crate::folder::Folder;
 use crate::setting::Setting;
@@ -7,7 +8,6 @@ use crate::stream::Stream;
 use crate::words::words_of;
 use conformance::Answer;
 use std::alloc::Global;
-use tpm_actions::{DONE, act};
 
 /// What a command line leaves: its status, what was written on both streams, and the files.
 #[derive(Drop)]
@@ -19,13 +19,18 @@ pub(crate) struct Left {
 }
 
 /// Runs a command line in a folder, with a standard output that takes so many bytes.
-fn run(alloc: Global, line: &str, folder: &Folder, room: usize) -> Option<(u8, Vec<u8>, Vec<u8>)> {
+fn run<C: Command>(
+    alloc: Global,
+    line: &str,
+    folder: &Folder,
+    room: usize,
+) -> Option<(u8, Vec<u8>, Vec<u8>)> {
     let words = words_of(alloc, line)?;
     let mut files = CaseFiles { alloc, folder };
     let mut out = Stream::new(alloc, room);
     let mut err = Stream::new(alloc, usize::MAX);
     let trace = Stream::new(alloc, 0);
-    let status = act(
+    let status = C::act(
         alloc,
         words.as_slice(),
         &mut files,
@@ -37,16 +42,16 @@ fn run(alloc: Global, line: &str, folder: &Folder, room: usize) -> Option<(u8, V
 }
 
 /// Runs the command lines of a case. None: a command that is run before fails, or memory runs out.
-pub(crate) fn run_case(setting: &Setting, size: usize, room: usize) -> Option<Left> {
+pub(crate) fn run_case<C: Command>(setting: &Setting, size: usize, room: usize) -> Option<Left> {
     let alloc = setting.alloc;
     let folder = setting.folder(size, room)?;
     for line in &setting.before {
-        let (status, _, _) = run(alloc, line.as_str(), &folder, usize::MAX)?;
-        if status != DONE {
+        let (status, _, _) = run::<C>(alloc, line.as_str(), &folder, usize::MAX)?;
+        if status != C::DONE {
             return None;
         }
     }
-    let (status, out, err) = run(alloc, setting.line.as_str(), &folder, room)?;
+    let (status, out, err) = run::<C>(alloc, setting.line.as_str(), &folder, room)?;
     Some(Left {
         status,
         out,

@@ -1,7 +1,8 @@
-//! Cases of command lines of `tpm`, over files and streams in memory.
+//! Cases of command lines of a command, over files and streams in memory.
 #![tactic(auto)]
 
 mod asking;
+mod command;
 mod expected;
 mod files;
 mod folder;
@@ -11,4 +12,5 @@ mod setting;
 mod stream;
 mod words;
 
-pub use setting::Setting;
+pub use asking::CommandCases;
+pub use command::Command;

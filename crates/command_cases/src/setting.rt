@@ -11,7 +11,7 @@ const MODULE: &str = "F";
 
 /// What a command line is run over, and what it is expected to leave.
 #[derive(Drop)]
-pub struct Setting {
+pub(crate) struct Setting {
     pub(crate) alloc: Global,
     /// The module as it is given, and with some numbers set.
     module: Vec<u8>,

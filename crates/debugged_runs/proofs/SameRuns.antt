@@ -19,15 +19,14 @@ use Rattle.link_runner.specs.Writers.{writers_of}
 use Rattle.link_runner.proofs.AllBytes.{knows_all}
 use Rattle.link_runner.proofs.WholeRun.{finishes}
 use Rattle.machine.specs.Bounding.{BoundedExecution, Shows}
-use Rattle.tpm_actions.specs.declared.debugging.Ending.TheVariants as endings
-use Rattle.tpm_actions.specs.declared.files.FileFault.{FileFault}
-use Rattle.tpm_actions.specs.Debugging.{report_at}
-use Rattle.tpm_actions.specs.FilesInOrder.{GivesAll, MayGive, in_order}
-use Rattle.tpm_actions.specs.FilesOnLinks.{RunsWithCreated}
-use Rattle.tpm_actions.specs.RunTexts.{debug_text}
-use Rattle.tpm_actions.specs.Texts.{counts_text, ending_of, report_text, run_text}
+use Rattle.file_runs.specs.declared.debugging.Ending.TheVariants as endings
+use Rattle.file_access.specs.declared.files.FileFault.{FileFault}
+use Rattle.file_runs.specs.Debugging.{report_at}
+use Rattle.file_runs.specs.FilesInOrder.{GivesAll, MayGive, in_order}
+use Rattle.file_runs.specs.FilesOnLinks.{RunsWithCreated}
+use Rattle.file_runs.specs.RunTexts.{counts_text, debug_text, ending_of, run_text, summary_text}
 use Rattle.debugged_runs.specs.DebuggedRuns.{OverIsRun, DebugAgreesWithRun, FilesOfRun, Debugs}
-use Rattle.tpm_actions.specs.Storage.{Storage}
+use Rattle.file_access.specs.Storage.{Storage}
 
 -- ---- which links have writers
 
@@ -100,7 +99,7 @@ module _ {R W : Type 0} (left : R → Option (List ℕ)) (read_failed : R → Bo
 told_so : (inputs outputs : OnLinks (Option Text)) (report : Report) (waits : Text)
     → debug_text endings.Over inputs outputs report waits ≡ run_text inputs outputs report ++ waits
 told_so inputs outputs report waits =
-    let first = report_text (ending_of report) in
+    let first = summary_text (ending_of report) in
     let ins = counts_text input_names inputs report.read in
     let outs = counts_text output_names outputs report.written in
     sym (append_assoc first (10 ∷ [] ++ (ins ++ outs)) waits

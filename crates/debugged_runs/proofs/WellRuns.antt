@@ -32,13 +32,13 @@ use Rattle.verifier.specs.Headline.{AreEvents, IsEvent, RunsWell, cost}
 use Rattle.command_line.specs.Words.{Text}
 use Rattle.command_line.specs.Fitting.{number_in}
 use Rattle.command_line.specs.declared.links.OnLinks.{OnLinks}
-use Rattle.tpm_actions.specs.declared.debugging.Ending.TheVariants as endings
-use Rattle.tpm_actions.specs.Debugging.{limit_of}
+use Rattle.file_runs.specs.declared.debugging.Ending.TheVariants as endings
+use Rattle.file_runs.specs.Debugging.{limit_of}
 use Rattle.tpm_actions.specs.Programs.{EndsAs, IsProgramOf, LinedModule, is_module, is_source}
 use Rattle.debugged_runs.specs.DebuggedRuns.{NeverFaults, RunsWellIfModule, TellsNoFault, IsCutBelowBudget}
 use Rattle.debugged_runs.specs.DebuggedRuns.{AsksForLess, IsCutAsAsked}
 use Rattle.debugged_runs.proofs.Running.{still_runs}
-use Rattle.tpm_actions.specs.Storage.{Storage}
+use Rattle.file_access.specs.Storage.{Storage}
 
 -- ---- where a machine has stopped of itself
 

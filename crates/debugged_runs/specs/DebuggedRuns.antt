@@ -17,13 +17,13 @@ use Rattle.link_runner.specs.Runs.{Has, Keeps, Writes}
 use Rattle.machine.specs.Bounding.{BoundedExecution}
 use Rattle.source_lines.specs.declared.entry.LineEntry.{LineEntry}
 use Rattle.verifier.specs.Headline.{RunsWell}
-use Rattle.tpm_actions.specs.declared.debugging.Ending.TheVariants as endings
-use Rattle.tpm_actions.specs.Debugging.{DrivesWithCreated, HasRunTo, halted, report_at}
-use Rattle.tpm_actions.specs.Extents.{begins_as_module}
-use Rattle.tpm_actions.specs.FilesOnLinks.{RunsTo, RunsWithCreated}
+use Rattle.file_runs.specs.declared.debugging.Ending.TheVariants as endings
+use Rattle.file_runs.specs.Debugging.{DrivesWithCreated, HasRunTo, halted, report_at}
+use Rattle.file_access.specs.Extents.{begins_as_module}
+use Rattle.file_runs.specs.FilesOnLinks.{RunsTo, RunsWithCreated}
 use Rattle.tpm_actions.specs.Programs.{EndsAs, IsProgramWith}
-use Rattle.tpm_actions.specs.Texts.{run_text}
-use Rattle.tpm_actions.specs.Storage.{Storage}
+use Rattle.file_runs.specs.RunTexts.{run_text}
+use Rattle.file_access.specs.Storage.{Storage}
 
 -- a number of bytes was asked for, and it is below the module's budget
 pub record AsksForLess (m : Contents) (bytes : Option Text) : Type 0 where

@@ -2,9 +2,9 @@
 
 ghost use Rattle.debugged_runs.specs.DebuggedRuns.{NeverFaults, TellsNoFault, IsCutBelowBudget, OverIsRun};
 ghost use Rattle.debugged_runs.specs.DebuggedRuns.{IsCutAsAsked, DebugAgreesWithRun};
-ghost use Rattle.tpm_actions.specs.Storage.{storage_of};
+ghost use Rattle.file_access.specs.Storage.{storage_of};
 
-use tpm_actions::Files;
+use file_access::Files;
 
 /// On the machine that checks each rule a certified module comes to no fault, with whatever files.
 pub fn certified_modules_come_to_no_fault<F: Files>()

@@ -2,10 +2,11 @@
 #![tactic(auto)]
 
 use command_line::{WordFault, texts};
+use file_access::SystemFiles;
 use std::io::{self, Input};
 use std::process::ExitCode;
 use std::rt::{Env, Files};
-use tpm_actions::{MISUSED, STARVED, SystemFiles, act};
+use tpm_actions::{MISUSED, STARVED, act};
 
 /// Hands the words and the files of the system to `act`, and the two streams.
 fn run<R: Env + Files + Input + AllocGlobal>(

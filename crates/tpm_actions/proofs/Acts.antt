@@ -1,24 +1,23 @@
 -- What was performed, as what the program did.
-use Rattle.std.proofs.Common.{◌≡◌, ℕ, List, Option, Some, Result, Ok, Err, ◌⊎◌, inl, inr, refl}
+use Rattle.std.proofs.Common.{◌≡◌, ℕ, List, Option, Some, Result, Ok, Err, inl, inr, refl, ap, ◌∙◌}
 use Rattle.std.specs.Prelude.{string_bytes}
-use Rattle.std.specs.Borrow.{Bor}
 use Rattle.command_line.specs.Words.{Text}
 use Rattle.tpm_actions.specs.declared.report.RefusedFor.{RefusedFor}
-use Rattle.tpm_actions.specs.Extents.{extent_of}
-use Rattle.tpm_actions.specs.declared.files.FileFault.TheVariants as file_faults
+use Rattle.file_access.specs.declared.failure.FileFailure.{FileFailure}
+use Rattle.file_access.specs.declared.failure.FileFailure.TheVariants as stops
 use Rattle.tpm_actions.specs.declared.report.Failure.{Failure}
 use Rattle.tpm_actions.specs.declared.report.Failure.TheVariants as failures
-use Rattle.command_line.specs.Asked.{Asked, path_of}
+use Rattle.command_line.specs.Asked.{Asked}
 use Rattle.command_line.specs.CommandLine.{line_of}
 use Rattle.tpm_actions.specs.Texts.{status_of}
 use Rattle.tpm_actions.specs.Acting.{Acts, Performs, Reads, Answers, Hinders, HoldsBeginning, IsFaulted, IsRefusedWith}
-use Rattle.tpm_actions.specs.Acting.{IsStopped, IsToldInPart, IsUntold, Tells, malformed, uncertified, uncompiled}
+use Rattle.tpm_actions.specs.Acting.{IsToldInPart, IsUnreadFor, Tells, malformed, uncertified, uncompiled}
 use Rattle.tpm_actions.specs.Acting.{not_upgraded, told, refused, explained, faulted, unread, stopped, unwritten}
 use Rattle.tpm_actions.specs.Acting.{starved_by_file, starved_by_text, report_in_part, explanation_in_part}
 use Rattle.tpm_actions.specs.Acting.{fault_in_part}
 use Rattle.tpm_actions.specs.Streams.{shown_of}
 use Rattle.machine_state.specs.declared.fault.Fault.{Fault}
-use Rattle.tpm_actions.specs.Storage.{Storage}
+use Rattle.file_access.specs.Storage.{Storage}
 
 module _ {F R W : Type 0} (storage : Storage F R W) (words : List Text) (asked : Asked) (before after : F)
     (out_before out_after : Option (List ℕ)) where
@@ -38,35 +37,29 @@ module _ {F R W : Type 0} (storage : Storage F R W) (words : List Text) (asked :
     holds = implies file.bytes file.next file.holds;
   }
 
-  -- memory ran out once the file was read
-  starved : (status : ℕ) → status ≡ 4 → line_of words ≡ Some asked → out_after ≡ out_before
-      → Hinders storage asked before after failures.Memory
+  -- the file that is asked for was not read
+  unread_at : (stop : FileFailure) (status : ℕ) → status ≡ status_of (failures.Stopped stop)
+      → line_of words ≡ Some asked → out_after ≡ out_before
+      → IsUnreadFor storage asked before after stop
       → Acts storage words before after out_before out_after status
-  starved status is line same file = go file.holds
-    where
-      go : IsStopped storage file.bytes asked file.next after failures.Memory
-          ⊎ IsUntold storage file.bytes asked file.next after
-          → Acts storage words before after out_before out_after status
-      go (inl stops) = stopped asked failures.Memory line
-          (record { bytes = file.bytes; next = file.next; read = file.read; holds = stops }) same is
-      go (inr done) = starved_by_text asked line
-          (record { bytes = file.bytes; next = file.next; read = file.read; holds = done }) same is
+  unread_at (stops.Unread path) status is line same file = unread asked line file.1 same is
+  unread_at (stops.Uncreated path) status is line same file = absurd file
+  unread_at (stops.ReadFailed link) status is line same file = absurd file
+  unread_at (stops.WriteFailed link) status is line same file = absurd file
+  unread_at stops.Memory status is line same file = starved_by_file asked line file same is
 
-  starved_at : (status : ℕ) → status ≡ 4 → line_of words ≡ Some asked → out_after ≡ out_before
-      → storage.calls.reads before (path_of asked) (extent_of asked) (Err file_faults.Memory) after
-      ⊎ Hinders storage asked before after failures.Memory
+  -- a file or a link failed once the file was read, or memory ran out
+  stopped_at : (stop : FileFailure) (status : ℕ) → status ≡ status_of (failures.Stopped stop)
+      → line_of words ≡ Some asked → out_after ≡ out_before
+      → Hinders storage asked before after (failures.Stopped stop)
       → Acts storage words before after out_before out_after status
-  starved_at status is line same (inl file) = starved_by_file asked line file same is
-  starved_at status is line same (inr file) = starved status is line same file
-
-  -- the module file, or that of a link, was not read
-  unread_at : (path : Bor Text) (status : ℕ) → status ≡ 3 → line_of words ≡ Some asked → out_after ≡ out_before
-      → ((path.now ≡ path_of asked) × storage.calls.reads before (path_of asked) (extent_of asked)
-      (Err file_faults.Failed) after)
-      ⊎ Hinders storage asked before after (failures.Unread path)
-      → Acts storage words before after out_before out_after status
-  unread_at path status is line same (inl file) = unread asked line file.1 same is
-  unread_at path status is line same (inr file) = stopped asked (failures.Unread path) line file same is
+  stopped_at stop status is line same file = elim file.holds [
+    | inl stopped_by ↦ stopped asked stop line
+        (record { bytes = file.bytes; next = file.next; read = file.read; holds = stopped_by }) same is
+    | inr done ↦ starved_by_text asked line
+        (record { bytes = file.bytes; next = file.next; read = file.read; holds = done.1 }) same
+        (is ∙ ap (λ (why : FileFailure). status_of (failures.Stopped why)) done.0)
+  ]
 
   pub acts_failed : (failure : Failure) (status : ℕ) → status ≡ status_of failure → line_of words ≡ Some asked
       → Performs storage asked before after out_before out_after (Err failure)
@@ -83,16 +76,11 @@ module _ {F R W : Type 0} (storage : Storage F R W) (words : List Text) (asked :
       refused asked line (read_so (λ bytes next why. (uncompiled fault why.0, why.1)) performed.0) performed.1 is
   acts_failed (failures.NotUpgraded fault) status is line performed =
       refused asked line (read_so (λ bytes next why. (not_upgraded fault why.0, why.1)) performed.0) performed.1 is
-  acts_failed (failures.Unread path) status is line performed =
-      unread_at path status is line performed.1 performed.0
-  acts_failed (failures.Uncreated path) status is line performed =
-      stopped asked (failures.Uncreated path) line performed.0 performed.1 is
-  acts_failed (failures.ReadFailed link) status is line performed =
-      stopped asked (failures.ReadFailed link) line performed.0 performed.1 is
-  acts_failed (failures.WriteFailed link) status is line performed =
-      stopped asked (failures.WriteFailed link) line performed.0 performed.1 is
+  acts_failed (failures.Stopped stop) status is line performed = elim performed.0 [
+    | inl file ↦ unread_at stop status is line performed.1 file
+    | inr file ↦ stopped_at stop status is line performed.1 file
+  ]
   acts_failed failures.Unwritten status is line performed = unwritten asked line performed is
-  acts_failed failures.Memory status is line performed = starved_at status is line performed.1 performed.0
 
   -- a text was not written to its end
   told_in_part : (text : Text) (failure : Failure)
@@ -106,12 +94,8 @@ module _ {F R W : Type 0} (storage : Storage F R W) (words : List Text) (asked :
   told_in_part text (failures.Faulted why told_by) part tells = absurd tells
   told_in_part text (failures.Uncompiled fault) part tells = absurd tells
   told_in_part text (failures.NotUpgraded fault) part tells = absurd tells
-  told_in_part text (failures.Unread path) part tells = absurd tells
-  told_in_part text (failures.Uncreated path) part tells = absurd tells
-  told_in_part text (failures.ReadFailed link) part tells = absurd tells
-  told_in_part text (failures.WriteFailed link) part tells = absurd tells
+  told_in_part text (failures.Stopped why) part tells = absurd tells
   told_in_part text failures.Unwritten part tells = part tells
-  told_in_part text failures.Memory part tells = absurd tells
 
   -- the text that explains a refusal
   pub explained_in_part : (refusal : RefusedFor) (text : Text) (failure : Failure)

@@ -1,12 +1,12 @@
 -- What is reported about a file that was read, as the answer of the program.
 use Rattle.std.proofs.Common.{ℕ, List, Result, Ok, Err, MatchResult, inr}
 use Rattle.command_line.specs.Words.{Text}
-use Rattle.tpm_actions.specs.Extents.{extent_of}
+use Rattle.tpm_actions.specs.EnoughRead.{extent_of}
 use Rattle.tpm_actions.specs.declared.report.Failure.{Failure}
 use Rattle.tpm_actions.specs.declared.report.Failure.TheVariants as failures
 use Rattle.command_line.specs.Asked.{Asked, path_of}
 use Rattle.tpm_actions.specs.Acting.{Answers, Hinders, IsTold, IsHindered}
-use Rattle.tpm_actions.specs.Storage.{Storage}
+use Rattle.file_access.specs.Storage.{Storage}
 
 module _ {F R W : Type 0} (storage : Storage F R W) (asked : Asked) (bytes : List ℕ) (before next after : F)
     (read : storage.calls.reads before (path_of asked) (extent_of asked) (Ok bytes) next) where
@@ -24,12 +24,8 @@ module _ {F R W : Type 0} (storage : Storage F R W) (asked : Asked) (bytes : Lis
   hindered (failures.Faulted fault text) why = hinders (failures.Faulted fault text) why
   hindered (failures.Uncompiled fault) why = hinders (failures.Uncompiled fault) why
   hindered (failures.NotUpgraded fault) why = hinders (failures.NotUpgraded fault) why
-  hindered (failures.Unread path) why = inr (hinders (failures.Unread path) why)
-  hindered (failures.Uncreated path) why = hinders (failures.Uncreated path) why
-  hindered (failures.ReadFailed link) why = hinders (failures.ReadFailed link) why
-  hindered (failures.WriteFailed link) why = hinders (failures.WriteFailed link) why
+  hindered (failures.Stopped stop) why = inr (hinders (failures.Stopped stop) why)
   hindered failures.Unwritten why = why
-  hindered failures.Memory why = inr (hinders failures.Memory why)
 
   -- the answer where the file was read
   pub answered : {S : Type 0} (text_of : S → Text) (result : Result S Failure)

@@ -11,6 +11,7 @@ use Rattle.tpm_actions.specs.declared.report.RefusedFor.TheVariants as refused
 use Rattle.tpm_actions.specs.Explaining.{ExplainsFault, ExplainsSource, IsFaultExplained, IsSourceExplained, IsUnread}
 use Rattle.tpm_actions.specs.Explaining.{WithholdsSource}
 use Rattle.tpm_actions.specs.Malformed.{IsMalformed}
+use Rattle.file_access.specs.declared.failure.FileFailure.{FileFailure}
 use Rattle.tpm_actions.specs.declared.report.Failure.{Failure}
 use Rattle.tpm_actions.specs.declared.report.Failure.TheVariants as failures
 use Rattle.command_line.specs.declared.links.OnLinks.{OnLinks}
@@ -22,24 +23,20 @@ use Rattle.tpm_actions.specs.Compiling.{HasCompiled, WithholdsModule}
 use Rattle.tpm_actions.specs.Upgrading.{HasUpgraded, WithholdsUpgrade}
 use Rattle.tpm_actions.specs.Acting.{IsAllowed, TellsOf, StopsIn, IsDone, ExplainsTo, WithholdsOf, IsTold, IsStopped}
 use Rattle.tpm_actions.specs.Acting.{IsUntold, IsRefusedWith, IsHindered}
-use Rattle.tpm_actions.specs.Storage.{Storage}
+use Rattle.file_access.specs.Storage.{Storage}
 
 module _ {F R W : Type 0} (storage : Storage F R W) where
   module_withheld : (bytes : List ℕ) (source out : Text) (before after : F) (failure : Failure)
       → WithholdsModule storage source bytes out before after failure
       → IsHindered storage bytes (compiles source out) before after failure
-  module_withheld bytes source out before after (failures.Malformed fault) why = absurd why.writes
-  module_withheld bytes source out before after (failures.Uncertified refusal) why = absurd why.writes
-  module_withheld bytes source out before after (failures.Explained refusal text) why = absurd why.writes
-  module_withheld bytes source out before after (failures.Faulted fault text) why = absurd why.writes
+  module_withheld bytes source out before after (failures.Malformed fault) why = absurd why
+  module_withheld bytes source out before after (failures.Uncertified refusal) why = absurd why
+  module_withheld bytes source out before after (failures.Explained refusal text) why = absurd why
+  module_withheld bytes source out before after (failures.Faulted fault text) why = absurd why
   module_withheld bytes source out before after (failures.Uncompiled fault) why = why
-  module_withheld bytes source out before after (failures.NotUpgraded fault) why = absurd why.writes
-  module_withheld bytes source out before after (failures.Unread missing) why = why
-  module_withheld bytes source out before after (failures.Uncreated missing) why = why
-  module_withheld bytes source out before after (failures.ReadFailed link) why = why
-  module_withheld bytes source out before after (failures.WriteFailed link) why = why
-  module_withheld bytes source out before after failures.Unwritten why = absurd why.writes
-  module_withheld bytes source out before after failures.Memory why = why
+  module_withheld bytes source out before after (failures.NotUpgraded fault) why = absurd why
+  module_withheld bytes source out before after (failures.Stopped stop) why = why
+  module_withheld bytes source out before after failures.Unwritten why = absurd why
 
   -- the answer that compiling a source gives
   pub module_judged : {S : Type 0} (text_of : S → Text) (bytes : List ℕ) (source out : Text) (before after : F)
@@ -58,17 +55,13 @@ module _ {F R W : Type 0} (storage : Storage F R W) where
       → WithholdsUpgrade storage bytes new before after failure
       → IsHindered storage bytes (upgrades old new) before after failure
   upgrade_withheld bytes old new before after (failures.Malformed fault) why = why
-  upgrade_withheld bytes old new before after (failures.Uncertified refusal) why = absurd why.writes
-  upgrade_withheld bytes old new before after (failures.Explained refusal text) why = absurd why.writes
-  upgrade_withheld bytes old new before after (failures.Faulted fault text) why = absurd why.writes
-  upgrade_withheld bytes old new before after (failures.Uncompiled fault) why = absurd why.writes
+  upgrade_withheld bytes old new before after (failures.Uncertified refusal) why = absurd why
+  upgrade_withheld bytes old new before after (failures.Explained refusal text) why = absurd why
+  upgrade_withheld bytes old new before after (failures.Faulted fault text) why = absurd why
+  upgrade_withheld bytes old new before after (failures.Uncompiled fault) why = absurd why
   upgrade_withheld bytes old new before after (failures.NotUpgraded fault) why = why
-  upgrade_withheld bytes old new before after (failures.Unread missing) why = why
-  upgrade_withheld bytes old new before after (failures.Uncreated missing) why = why
-  upgrade_withheld bytes old new before after (failures.ReadFailed link) why = why
-  upgrade_withheld bytes old new before after (failures.WriteFailed link) why = why
-  upgrade_withheld bytes old new before after failures.Unwritten why = absurd why.writes
-  upgrade_withheld bytes old new before after failures.Memory why = why
+  upgrade_withheld bytes old new before after (failures.Stopped stop) why = why
+  upgrade_withheld bytes old new before after failures.Unwritten why = absurd why
 
   -- the answer that upgrading a module gives
   pub upgrade_judged : {S : Type 0} (text_of : S → Text) (bytes : List ℕ) (old new : Text) (before after : F)
@@ -89,19 +82,15 @@ module _ {F R W : Type 0} (storage : Storage F R W) where
       → IsHindered storage bytes (debugs path inputs outputs limit trace) before after failure
   program_withheld bytes path inputs outputs limit trace before after (failures.Malformed fault) why = why
   program_withheld bytes path inputs outputs limit trace before after (failures.Uncertified refusal) why =
-      absurd why.holds
+      absurd why
   program_withheld bytes path inputs outputs limit trace before after (failures.Explained refusal text) why =
-      absurd why.holds
+      absurd why
   program_withheld bytes path inputs outputs limit trace before after (failures.Faulted fault text) why = why
   program_withheld bytes path inputs outputs limit trace before after (failures.Uncompiled fault) why = why
   program_withheld bytes path inputs outputs limit trace before after (failures.NotUpgraded fault) why =
-      absurd why.holds
-  program_withheld bytes path inputs outputs limit trace before after (failures.Unread missing) why = why
-  program_withheld bytes path inputs outputs limit trace before after (failures.Uncreated missing) why = why
-  program_withheld bytes path inputs outputs limit trace before after (failures.ReadFailed link) why = why
-  program_withheld bytes path inputs outputs limit trace before after (failures.WriteFailed link) why = why
-  program_withheld bytes path inputs outputs limit trace before after failures.Unwritten why = absurd why.holds
-  program_withheld bytes path inputs outputs limit trace before after failures.Memory why = inl tt
+      absurd why
+  program_withheld bytes path inputs outputs limit trace before after (failures.Stopped stop) why = inl why
+  program_withheld bytes path inputs outputs limit trace before after failures.Unwritten why = absurd why
 
   -- the answer that a run of a module or a source gives on the machine that checks each rule
   pub program_judged : {S : Type 0} (text_of : S → Text) (bytes : List ℕ) (path : Text)
@@ -134,12 +123,8 @@ module _ {F R W : Type 0} (storage : Storage F R W) where
     source_withheld (failures.Faulted fault text) why = absurd why
     source_withheld (failures.Uncompiled fault) why = (why, refl)
     source_withheld (failures.NotUpgraded fault) why = absurd why
-    source_withheld (failures.Unread missing) why = absurd why
-    source_withheld (failures.Uncreated missing) why = absurd why
-    source_withheld (failures.ReadFailed link) why = absurd why
-    source_withheld (failures.WriteFailed link) why = absurd why
+    source_withheld (failures.Stopped stop) why = inr (why.0, inr (why.1, refl))
     source_withheld failures.Unwritten why = absurd why
-    source_withheld failures.Memory why = inr (inr (why, refl))
 
     -- the answer that explaining a source gives
     pub source_judged : {S : Type 0} (text_of : S → Text) (result : Result S Failure)
@@ -175,12 +160,8 @@ module _ {F R W : Type 0} (storage : Storage F R W) where
     unread question (failures.Faulted why text) is = absurd is
     unread question (failures.Uncompiled why) is = absurd is
     unread question (failures.NotUpgraded why) is = absurd is
-    unread question (failures.Unread missing) is = absurd is
-    unread question (failures.Uncreated missing) is = absurd is
-    unread question (failures.ReadFailed link) is = absurd is
-    unread question (failures.WriteFailed link) is = absurd is
+    unread question (failures.Stopped why) is = absurd is
     unread question failures.Unwritten is = absurd is
-    unread question failures.Memory is = absurd is
 
   module _ (bytes : List ℕ) (m : Contents) (format : Format bytes m) (path : Text) (before after : F) where
     -- what is reported about the module
@@ -192,14 +173,14 @@ module _ {F R W : Type 0} (storage : Storage F R W) where
     told Listing text tells = record { contents = m; format = format; told = tells }
     told Explanation text tells = inl (record { contents = m; format = format; told = tells })
 
-    stopped : (question : Question) (failure : Failure) → IsAllowed m (asked_about path question)
-        → StopsIn storage m (asked_about path question) before after failure
-        → IsStopped storage bytes (asked_about path question) before after failure
-    stopped Verdict failure allowed stops = absurd stops
-    stopped (Run inputs outputs) failure allowed stops =
-        record { contents = m; format = format; certified = allowed; holds = stops }
-    stopped Listing failure allowed stops = absurd stops
-    stopped Explanation failure allowed stops = absurd stops
+    stopped : (question : Question) (why : FileFailure) → IsAllowed m (asked_about path question)
+        → StopsIn storage m (asked_about path question) before after why
+        → IsStopped storage bytes (asked_about path question) before after why
+    stopped Verdict why allowed stopped_in = absurd stopped_in
+    stopped (Run inputs outputs) why allowed stopped_in =
+        record { contents = m; format = format; certified = allowed; holds = stopped_in }
+    stopped Listing why allowed stopped_in = absurd stopped_in
+    stopped Explanation why allowed stopped_in = absurd stopped_in
 
     untold : (question : Question) → IsAllowed m (asked_about path question)
         → IsDone storage m (asked_about path question) before after
@@ -233,15 +214,11 @@ module _ {F R W : Type 0} (storage : Storage F R W) where
     withheld question (failures.Faulted fault text) why = absurd why
     withheld question (failures.Uncompiled fault) why = absurd why
     withheld question (failures.NotUpgraded fault) why = absurd why
-    withheld question (failures.Unread missing) why = stopped question (failures.Unread missing) why.0 why.1
-    withheld question (failures.Uncreated missing) why = stopped question (failures.Uncreated missing) why.0 why.1
-    withheld question (failures.ReadFailed link) why = stopped question (failures.ReadFailed link) why.0 why.1
-    withheld question (failures.WriteFailed link) why = stopped question (failures.WriteFailed link) why.0 why.1
-    withheld question failures.Unwritten why = absurd why
-    withheld question failures.Memory why = elim why.1 [
-      | inl stops ↦ inl (stopped question failures.Memory why.0 stops)
-      | inr done ↦ inr (untold question why.0 done)
+    withheld question (failures.Stopped stop) why = elim why.1 [
+      | inl stopped_in ↦ inl (stopped question stop why.0 stopped_in)
+      | inr done ↦ inr (done.0, untold question why.0 done.1)
     ]
+    withheld question failures.Unwritten why = absurd why
 
     -- the answer that a question about the module gives
     pub replied : {S : Type 0} (text_of : S → Text) (question : Question) (result : Result S Failure)

@@ -1,13 +1,7 @@
-pub mod FirstBytes
-pub mod Extents
+pub mod EnoughRead
 pub mod Acts
 pub mod Answered
 pub mod Judged
-pub mod FilesClosed
-pub mod FilesRun
 pub mod Beginnings
 pub mod UnreadFiles
 pub mod ProgramsRun
-pub mod Driven
-pub mod EitherRead
-pub mod UsageTold

@@ -14,8 +14,11 @@ use Rattle.certified_worlds.specs.Certified.{IsCertified}
 use Rattle.compiler.specs.Compiled.{IsRefusedFor}
 use Rattle.verifier.specs.Reports.{Reports, out_of_memory}
 use Rattle.verifier.specs.declared.upgrading.UpgradeFault.{UpgradeFault}
-use Rattle.tpm_actions.specs.Extents.{begins_as_module, extent_of}
-use Rattle.tpm_actions.specs.declared.files.FileFault.TheVariants as file_faults
+use Rattle.file_access.specs.Extents.{begins_as_module}
+use Rattle.tpm_actions.specs.EnoughRead.{extent_of}
+use Rattle.file_access.specs.declared.failure.FileFailure.{FileFailure}
+use Rattle.file_access.specs.declared.failure.FileFailure.TheVariants as stops
+use Rattle.file_access.specs.declared.files.FileFault.TheVariants as file_faults
 use Rattle.tpm_actions.specs.declared.refused.RefusedSource.{RefusedSource}
 use Rattle.tpm_actions.specs.declared.report.Report.TheVariants.{Accepted}
 use Rattle.tpm_actions.specs.declared.report.Failure.{Failure}
@@ -28,14 +31,15 @@ use Rattle.tpm_actions.specs.Compiling.{CompilesAndWrites, HasCompiled, IsRefuse
 use Rattle.tpm_actions.specs.Explaining.{ExplainsBytes, ExplainsModule, IsCorrect, IsExplained, IsSourceExplained}
 use Rattle.tpm_actions.specs.Malformed.{IsMalformed}
 use Rattle.tpm_actions.specs.Upgrading.{HasUpgraded, IsRefusedUpgrade, UpgradesAndWrites}
-use Rattle.tpm_actions.specs.FilesOnLinks.{RunsTo}
+use Rattle.file_runs.specs.FilesOnLinks.{RunsTo}
+use Rattle.file_runs.specs.RunTexts.{run_text}
 use Rattle.machine_state.specs.declared.fault.Fault.{Fault}
-use Rattle.tpm_actions.specs.declared.debugging.Ending.TheVariants as endings
-use Rattle.tpm_actions.specs.Programs.{EndsAs, IsProgramWith, TellsProgram, WithholdsRun}
+use Rattle.file_runs.specs.declared.debugging.Ending.TheVariants as endings
+use Rattle.tpm_actions.specs.Programs.{EndsAs, IsProgramWith, StopsProgram, TellsProgram}
 use Rattle.tpm_actions.specs.Streams.{shown_of}
-use Rattle.tpm_actions.specs.Texts.{report_line, run_text, status_of}
+use Rattle.tpm_actions.specs.Texts.{report_line, status_of}
 use Rattle.listings.specs.Listing.{listing}
-use Rattle.tpm_actions.specs.Storage.{Storage}
+use Rattle.file_access.specs.Storage.{Storage}
 
 -- ---- the bytes of a module file
 
@@ -52,12 +56,8 @@ WithholdsVerdict m (failures.Explained refusal text) = ⊥
 WithholdsVerdict m (failures.Faulted fault text) = ⊥
 WithholdsVerdict m (failures.Uncompiled fault) = ⊥
 WithholdsVerdict m (failures.NotUpgraded fault) = ⊥
-WithholdsVerdict m (failures.Unread path) = ⊥
-WithholdsVerdict m (failures.Uncreated path) = ⊥
-WithholdsVerdict m (failures.ReadFailed link) = ⊥
-WithholdsVerdict m (failures.WriteFailed link) = ⊥
+WithholdsVerdict m (failures.Stopped why) = (why ≡ stops.Memory) × IsCertified m
 WithholdsVerdict m failures.Unwritten = ⊥
-WithholdsVerdict m failures.Memory = IsCertified m
 
 -- The module is certified, if its verdict is wanted.
 abbrev pub IsAllowed : Contents → Asked → Type 0
@@ -128,7 +128,7 @@ Tells before after text (Err failure) = ⊥
 
 module _ {F R W : Type 0} (storage : Storage F R W) where
   -- what becomes of a run of the module with files on its links
-  abbrev pub RunOf : Contents → OnLinks (Option Text) → OnLinks (Option Text) → F → F → Result RunReport Failure
+  abbrev pub RunOf : Contents → OnLinks (Option Text) → OnLinks (Option Text) → F → F → Result RunReport FileFailure
       → Type 0
   RunOf m inputs outputs before after result =
       RunsTo storage m inputs outputs before after result
@@ -152,14 +152,14 @@ module _ {F R W : Type 0} (storage : Storage F R W) where
   TellsOf m (explains path) before after text = IsExplained m text × (after ≡ before)
 
   -- a file of a link or a link failed, or memory ran out for them
-  abbrev pub StopsIn : Contents → Asked → F → F → Failure → Type 0
-  StopsIn m (compiles source out) before after failure = ⊥
-  StopsIn m (upgrades old new) before after failure = ⊥
-  StopsIn m (verifies path) before after failure = ⊥
-  StopsIn m (runs path inputs outputs) before after failure = RunOf m inputs outputs before after (Err failure)
-  StopsIn m (debugs path inputs outputs limit trace) before after failure = ⊥
-  StopsIn m (lists path) before after failure = ⊥
-  StopsIn m (explains path) before after failure = ⊥
+  abbrev pub StopsIn : Contents → Asked → F → F → FileFailure → Type 0
+  StopsIn m (compiles source out) before after why = ⊥
+  StopsIn m (upgrades old new) before after why = ⊥
+  StopsIn m (verifies path) before after why = ⊥
+  StopsIn m (runs path inputs outputs) before after why = RunOf m inputs outputs before after (Err why)
+  StopsIn m (debugs path inputs outputs limit trace) before after why = ⊥
+  StopsIn m (lists path) before after why = ⊥
+  StopsIn m (explains path) before after why = ⊥
 
   -- what is asked for was done, but is not reported
   abbrev pub IsDone : Contents → Asked → F → F → Type 0
@@ -181,10 +181,10 @@ module _ {F R W : Type 0} (storage : Storage F R W) where
   WithholdsOf m asked before after (failures.Faulted fault text) = ⊥
   WithholdsOf m asked before after (failures.Uncompiled fault) = ⊥
   WithholdsOf m asked before after (failures.NotUpgraded fault) = ⊥
+  WithholdsOf m asked before after (failures.Stopped why) =
+      IsAllowed m asked
+      × (StopsIn m asked before after why ⊎ ((why ≡ stops.Memory) × IsDone m asked before after))
   WithholdsOf m asked before after failures.Unwritten = ⊥
-  WithholdsOf m asked before after failures.Memory =
-      IsAllowed m asked × (StopsIn m asked before after failures.Memory ⊎ IsDone m asked before after)
-  WithholdsOf m asked before after failure = IsAllowed m asked × StopsIn m asked before after failure
 
   -- The bytes are the file of a module about which this is reported.
   pub record IsToldOfModule (bytes : List ℕ) (asked : Asked) (before after : F) (text : Text) : Type 0 where
@@ -210,15 +210,14 @@ module _ {F R W : Type 0} (storage : Storage F R W) where
 
   -- The bytes are a source or a module whose new file was not written, or the file of a module, and what is asked for
   -- stopped by this failure.
-  abbrev pub IsStopped : List ℕ → Asked → F → F → Failure → Type 0
-  IsStopped bytes (compiles source out) before after failure =
-      CompilesAndWrites storage bytes out before after (Err failure)
-  IsStopped bytes (upgrades old new) before after failure =
-      UpgradesAndWrites storage bytes new before after (Err failure)
-  IsStopped bytes (debugs path inputs outputs limit trace) before after failures.Memory = ⊤
-  IsStopped bytes (debugs path inputs outputs limit trace) before after failure = IsProgramWith bytes (λ m.
-      WithholdsRun storage inputs outputs limit before after m failure)
-  IsStopped bytes asked before after failure = IsJudged bytes asked (λ m. StopsIn m asked before after failure)
+  abbrev pub IsStopped : List ℕ → Asked → F → F → FileFailure → Type 0
+  IsStopped bytes (compiles source out) before after why =
+      CompilesAndWrites storage bytes out before after (Err why)
+  IsStopped bytes (upgrades old new) before after why =
+      UpgradesAndWrites storage bytes new before after (Err why)
+  IsStopped bytes (debugs path inputs outputs limit trace) before after why =
+      StopsProgram storage inputs outputs limit before after bytes why
+  IsStopped bytes asked before after why = IsJudged bytes asked (λ m. StopsIn m asked before after why)
 
   -- what is asked for was done with the bytes, but is not reported
   abbrev pub IsUntold : List ℕ → Asked → F → F → Type 0
@@ -245,10 +244,9 @@ module _ {F R W : Type 0} (storage : Storage F R W) where
       IsUncompiled bytes asked why × (after ≡ before)
   IsHindered bytes asked before after (failures.NotUpgraded fault) =
       IsNotUpgraded bytes asked fault × (after ≡ before)
+  IsHindered bytes asked before after (failures.Stopped why) =
+      IsStopped bytes asked before after why ⊎ ((why ≡ stops.Memory) × IsUntold bytes asked before after)
   IsHindered bytes asked before after failures.Unwritten = ⊥
-  IsHindered bytes asked before after failures.Memory =
-      IsStopped bytes asked before after failures.Memory ⊎ IsUntold bytes asked before after
-  IsHindered bytes asked before after failure = IsStopped bytes asked before after failure
 
   -- The file that is asked for was read. It gave bytes, and left files, of which this holds.
   pub record Reads (asked : Asked) (before : F) (holds_of : List ℕ → F → Type 0) : Type 0 where
@@ -271,17 +269,21 @@ module _ {F R W : Type 0} (storage : Storage F R W) where
   FaultsWith asked before after text =
       (fault : Fault) × Reads asked before (λ bytes next. IsFaulted bytes asked fault next after text)
 
+  -- the file that is asked for is not read
+  abbrev pub IsUnreadFor : Asked → F → F → FileFailure → Type 0
+  IsUnreadFor asked before after (stops.Unread path) =
+      (path.now ≡ path_of asked)
+      × storage.calls.reads before (path_of asked) (extent_of asked) (Err file_faults.Failed) after
+  IsUnreadFor asked before after stops.Memory =
+      storage.calls.reads before (path_of asked) (extent_of asked) (Err file_faults.Memory) after
+  IsUnreadFor asked before after why = ⊥
+
   -- what is reported about the file that is asked for, or why nothing is
   abbrev pub Answers : Asked → F → F → Result Text Failure → Type 0
   Answers asked before after (Ok text) = Reads asked before (λ bytes next. IsTold bytes asked next after text)
-  Answers asked before after (Err (failures.Unread path)) =
-      ((path.now ≡ path_of asked) × storage.calls.reads before (path_of asked) (extent_of asked)
-      (Err file_faults.Failed) after)
-      ⊎ Hinders asked before after (failures.Unread path)
+  Answers asked before after (Err (failures.Stopped why)) =
+      IsUnreadFor asked before after why ⊎ Hinders asked before after (failures.Stopped why)
   Answers asked before after (Err failures.Unwritten) = ⊥
-  Answers asked before after (Err failures.Memory) =
-      storage.calls.reads before (path_of asked) (extent_of asked) (Err file_faults.Memory) after
-      ⊎ Hinders asked before after failures.Memory
   Answers asked before after (Err failure) = Hinders asked before after failure
 
   -- Standard output failed, and holds a beginning of what is reported, of the explanation of a refusal, or of how far a
@@ -338,9 +340,9 @@ module _ {F R W : Type 0} (storage : Storage F R W) where
         → storage.calls.reads before (path_of asked) (extent_of asked) (Err file_faults.Failed) after
         → out_after ≡ out_before → status ≡ FAILED → Acts words before after out_before out_after status
     -- a file was not opened, created, written or closed, or a link failed, or memory ran out for them
-    stopped : (asked : Asked) (failure : Failure) → line_of words ≡ Some asked
-        → Reads asked before (λ bytes next. IsStopped bytes asked next after failure)
-        → out_after ≡ out_before → status ≡ status_of failure → Acts words before after out_before out_after status
+    stopped : (asked : Asked) (why : FileFailure) → line_of words ≡ Some asked
+        → Reads asked before (λ bytes next. IsStopped bytes asked next after why)
+        → out_after ≡ out_before → status ≡ status_of (failures.Stopped why) → Acts words before after out_before out_after status
     -- standard output failed, and holds a beginning of what is reported
     unwritten : (asked : Asked) → line_of words ≡ Some asked → IsToldInPart asked before after out_before out_after
         → status ≡ FAILED → Acts words before after out_before out_after status

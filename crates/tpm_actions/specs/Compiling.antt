@@ -1,53 +1,25 @@
 -- A source that is compiled, and the file that its module is written to: our own choice.
-use Rattle.std.specs.Prelude.{◌≡◌, ◌⊎◌, ⊤, ℕ, Bool, true, List, ◌++◌, codes, length, Some, Result, Ok, Err, IfSome}
+use Rattle.std.specs.Prelude.{◌≡◌, ◌⊎◌, ⊤, ℕ, List, ◌++◌, codes, length, Some, Result, Ok, Err, IfSome}
 use Rattle.std.specs.Prelude.{string_bytes}
-use Rattle.std.specs.Io.KnownBytes.{Appends}
 use Rattle.command_line.specs.Words.{Text}
 use Rattle.occam_layout.specs.declared.token.Line.{Line}
-use Rattle.program_uses.specs.declared.telling.UsageFault.{UsageFault}
-use Rattle.usage_reasons.specs.declared.reason.Reason.{Reason}
-use Rattle.usage_reasons.specs.Reasons.{IsReasonOf}
-use Rattle.usage_texts.specs.UsageTexts.{usage_text}
-use Rattle.occam_parser.specs.declared.fault.ParseFault.{ParseFault}
 use Rattle.reason_texts.specs.LayoutTexts.{layout_text}
-use Rattle.reason_texts.specs.ParseTexts.{parse_text}
 use Rattle.program_walk.specs.LimitTexts.{IsLimitText}
+use Rattle.source_reasons.specs.SourceReasons.{IsParseReason, IsUsageReason}
 use Rattle.module_builder.specs.declared.fault.GenFault.{GenFault}
 use Rattle.module_builder.specs.declared.fault.GenFault.TheVariants as generation
 use Rattle.compiler.specs.declared.source.CompileFault.{CompileFault}
 use Rattle.compiler.specs.declared.source.CompileFault.TheVariants as faults
 use Rattle.compiler.specs.Compiled.{HasLines, IsCompiled, IsRefusedFor}
-use Rattle.tpm_actions.specs.declared.files.FileFault.TheVariants as file_faults
+use Rattle.file_access.specs.declared.failure.FileFailure.{FileFailure}
+use Rattle.file_access.specs.declared.failure.FileFailure.TheVariants as stops
+use Rattle.file_access.specs.Writing.{IsWritten, Writes}
 use Rattle.tpm_actions.specs.declared.refused.RefusedSource.{RefusedSource}
 use Rattle.tpm_actions.specs.declared.report.Report.TheVariants.{Compiled}
 use Rattle.tpm_actions.specs.declared.report.Failure.{Failure}
 use Rattle.tpm_actions.specs.declared.report.Failure.TheVariants as failures
 use Rattle.tpm_actions.specs.Texts.{report_line}
-use Rattle.tpm_actions.specs.Storage.{Storage}
-
--- The source has lines that are no program, of which this is written.
-pub record IsParseReason (path : Text) (source : List ℕ) (fault : ParseFault) (text : Text) : Type 0 where
-  pub lines : List Line
-  pub has_lines : HasLines source lines
-  pub written : parse_text path source lines fault ≡ Some text
-
--- The reason is one of the fault, on a line with some number of tokens.
-pub record IsSomeReasonOf (fault : UsageFault) (reason : Reason) : Type 0 where
-  pub count : ℕ
-  pub is_reason : IsReasonOf count fault reason
-
--- This is written of a program with these lines, by a reason of its fault.
-pub record IsUsageText (path : Text) (source : List ℕ) (lines : List Line) (fault : UsageFault) (text : Text) :
-    Type 0 where
-  pub reason : Reason
-  pub is_reason : IsSomeReasonOf fault reason
-  pub written : usage_text path source lines reason fault.number ≡ Some text
-
--- The source has lines, and this is written of their program, which breaks a rule of usage.
-pub record IsUsageReason (path : Text) (source : List ℕ) (fault : UsageFault) (text : Text) : Type 0 where
-  pub lines : List Line
-  pub has_lines : HasLines source lines
-  pub written : IsUsageText path source lines fault text
+use Rattle.file_access.specs.Storage.{Storage}
 
 -- The source has lines, and this is written of their program, which is above a limit.
 pub record IsLimitReason (path : Text) (source : List ℕ) (text : Text) : Type 0 where
@@ -80,54 +52,25 @@ pub record IsRefusedAs (path : Text) (source : List ℕ) (why : RefusedSource) :
   pub reason : IfSome why.reason (λ text. IsReason path source why.fault (string_bytes text))
 
 module _ {F R W : Type 0} (storage : Storage F R W) where
-  -- The file of this path was created, a writer was given bytes to write, and then it was closed.
-  pub record IsWritten (path : Text) (bytes : List ℕ) (before after : F) : Type 0 where
-    pub writer : W
-    pub created : F
-    pub full : W
-    pub creates_it : storage.calls.creates before path (Ok writer) created
-    pub appends : Appends (storage.written writer) (storage.written full) bytes
-    pub closes_it : storage.calls.closes created full true after
-
-  -- The file of this path was created. A writer failed, or could not be closed.
-  pub record IsUnwritten (path : Text) (before after : F) : Type 0 where
-    pub writer : W
-    pub created : F
-    pub last : W
-    pub closed : Bool
-    pub creates_it : storage.calls.creates before path (Ok writer) created
-    pub closes_it : storage.calls.closes created last closed after
-
-  -- what became of the file of this path
-  abbrev pub Writes : Text → List ℕ → F → F → Result ⊤ Failure → Type 0
-  Writes path bytes before after (Ok _) = IsWritten path bytes before after
-  Writes path bytes before after (Err (failures.Uncreated told)) =
-      (told.now ≡ path)
-      × (storage.calls.creates before path (Err file_faults.Failed) after ⊎ IsUnwritten path before after)
-  Writes path bytes before after (Err failures.Memory) =
-      storage.calls.creates before path (Err file_faults.Memory) after
-  Writes path bytes before after (Err failure) = ⊥
-
   -- The source was compiled, and what became of the file is this.
-  pub record CompilesAndWrites (source : List ℕ) (path : Text) (before after : F) (result : Result ⊤ Failure) :
+  pub record CompilesAndWrites (source : List ℕ) (path : Text) (before after : F) (result : Result ⊤ FileFailure) :
       Type 0 where
     pub bytes : List ℕ
     pub compiled : IsCompiled source bytes
-    pub writes : Writes path bytes before after result
+    pub writes : Writes storage path bytes before after result
 
   -- The source was compiled, its module was written, and this text reports how long it is.
   pub record HasCompiled (source : List ℕ) (path : Text) (before after : F) (text : Text) : Type 0 where
     pub bytes : List ℕ
     pub compiled : IsCompiled source bytes
-    pub writes : IsWritten path bytes before after
+    pub writes : IsWritten storage path bytes before after
     pub told : text ≡ report_line (Compiled (length bytes))
 
   -- why nothing is reported about a source
   abbrev pub WithholdsModule : Text → List ℕ → Text → F → F → Failure → Type 0
   WithholdsModule path source out before after (failures.Uncompiled why) =
       IsRefusedAs path source why × (after ≡ before)
-  WithholdsModule path source out before after failures.Memory =
-      CompilesAndWrites source out before after (Err failures.Memory)
-      ⊎ ((u : ⊤) × CompilesAndWrites source out before after (Ok u))
-  WithholdsModule path source out before after failure =
-      CompilesAndWrites source out before after (Err failure)
+  WithholdsModule path source out before after (failures.Stopped why) =
+      CompilesAndWrites source out before after (Err why)
+      ⊎ ((why ≡ stops.Memory) × ((u : ⊤) × CompilesAndWrites source out before after (Ok u)))
+  WithholdsModule path source out before after failure = ⊥

@@ -16,6 +16,7 @@ use Rattle.certified_worlds.specs.Certified.{IsCertified, IsRefused}
 use Rattle.verifier.specs.declared.Refusal.{Refusal}
 use Rattle.verifier.specs.Reports.{out_of_memory}
 use Rattle.explanations.specs.Explaining.{explanation}
+use Rattle.file_access.specs.declared.failure.FileFailure.TheVariants as stops
 use Rattle.tpm_actions.specs.declared.report.Failure.{Failure}
 use Rattle.tpm_actions.specs.declared.report.Failure.TheVariants as failures
 use Rattle.tpm_actions.specs.declared.report.RefusedFor.{RefusedFor}
@@ -27,7 +28,7 @@ use Rattle.compiler.specs.declared.source.CompileFault.TheVariants as faults
 use Rattle.compiler.specs.CodeLines.{ends_in}
 use Rattle.compiler.specs.Compiled.{IsCompiled, IsRefusedFor}
 use Rattle.tpm_actions.specs.Compiling.{IsReason, IsRefusedAs}
-use Rattle.tpm_actions.specs.Extents.{begins_as_module}
+use Rattle.file_access.specs.Extents.{begins_as_module}
 use Rattle.tpm_actions.specs.Malformed.{IsMalformed}
 
 -- The module is certified, and this text is its explanation.
@@ -144,12 +145,8 @@ WithholdsExplanation m (failures.Explained refusal text) = ExplainsModule m refu
 WithholdsExplanation m (failures.Faulted fault text) = ⊥
 WithholdsExplanation m (failures.Uncompiled fault) = ⊥
 WithholdsExplanation m (failures.NotUpgraded fault) = ⊥
-WithholdsExplanation m (failures.Unread path) = ⊥
-WithholdsExplanation m (failures.Uncreated path) = ⊥
-WithholdsExplanation m (failures.ReadFailed link) = ⊥
-WithholdsExplanation m (failures.WriteFailed link) = ⊥
+WithholdsExplanation m (failures.Stopped why) = why ≡ stops.Memory
 WithholdsExplanation m failures.Unwritten = ⊥
-WithholdsExplanation m failures.Memory = ⊤
 
 -- This text explains why a source is refused.
 abbrev pub ExplainsSource : Text → List ℕ → RefusedFor → Text → Type 0
@@ -161,5 +158,5 @@ ExplainsSource path bytes (refused.Uncompiled fault) text = IsSourceRefusal path
 abbrev pub WithholdsSource : Text → List ℕ → Failure → Type 0
 WithholdsSource path bytes (failures.Explained refusal text) = ExplainsSource path bytes refusal (string_bytes text)
 WithholdsSource path bytes (failures.Uncompiled why) = (begins_as_module bytes ≡ false) × IsRefusedAs path bytes why
-WithholdsSource path bytes failures.Memory = IsCorrect bytes
+WithholdsSource path bytes (failures.Stopped why) = (why ≡ stops.Memory) × IsCorrect bytes
 WithholdsSource path bytes failure = ⊥

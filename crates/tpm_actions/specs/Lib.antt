@@ -1,16 +1,9 @@
 pub mod Texts
-pub mod RunTexts
-pub mod FileCalls
-pub mod FilesInOrder
-pub mod Storage
-pub mod FilesOnLinks
-pub mod Debugging
 pub mod Programs
 pub mod Streams
 pub mod Compiling
 pub mod Malformed
-pub mod Opened
-pub mod Extents
+pub mod EnoughRead
 pub mod Upgrading
 pub mod Explaining
 pub mod Acting

@@ -7,14 +7,16 @@ use Rattle.compiler.specs.CodeLines.{AreLinesOf}
 use Rattle.source_lines.specs.declared.entry.LineEntry.{LineEntry}
 use Rattle.command_line.specs.Words.{Text}
 use Rattle.command_line.specs.declared.links.OnLinks.{OnLinks}
-use Rattle.tpm_actions.specs.declared.debugging.Ending.{Ending}
-use Rattle.tpm_actions.specs.declared.debugging.Ending.TheVariants as endings
+use Rattle.file_access.specs.declared.failure.FileFailure.{FileFailure}
+use Rattle.file_access.specs.declared.failure.FileFailure.TheVariants as stops
+use Rattle.file_runs.specs.declared.debugging.Ending.{Ending}
+use Rattle.file_runs.specs.declared.debugging.Ending.TheVariants as endings
 use Rattle.tpm_actions.specs.declared.report.Failure.{Failure}
 use Rattle.tpm_actions.specs.declared.report.Failure.TheVariants as failures
-use Rattle.tpm_actions.specs.Debugging.{HasRunTo, StopsRun}
-use Rattle.tpm_actions.specs.Extents.{begins_as_module}
+use Rattle.file_runs.specs.Debugging.{HasRunTo, StopsRun}
+use Rattle.file_access.specs.Extents.{begins_as_module}
 use Rattle.tpm_actions.specs.Malformed.{IsMalformed}
-use Rattle.tpm_actions.specs.Storage.{Storage}
+use Rattle.file_access.specs.Storage.{Storage}
 
 -- a module, and which lines of its source its code comes from, if it has one
 pub record LinedModule : Type 0 where
@@ -58,16 +60,22 @@ module _ {F R W : Type 0} (storage : Storage F R W) (inputs outputs : OnLinks (O
   -- why no run of the module is reported, or how far it came that was brought to a fault
   abbrev pub WithholdsRun : LinedModule → Failure → Type 0
   WithholdsRun m (failures.Faulted fault text) = EndsAs m (endings.Faulted fault.fault) (string_bytes text)
-  WithholdsRun m failure =
-      StopsRun storage m.contents inputs outputs limit before after failure
+  WithholdsRun m (failures.Stopped why) = StopsRun storage m.contents inputs outputs limit before after why
+  WithholdsRun m failure = ⊥
 
   abbrev pub TellsProgram : List ℕ → Text → Type 0
   TellsProgram bytes text = IsProgramWith bytes (λ m. TellsModule m text)
 
-  -- the same of what is in a file
+  -- A file or a link failed in the run of what is in a file. What memory ran out for is not said.
+  abbrev pub StopsProgram : List ℕ → FileFailure → Type 0
+  StopsProgram bytes stops.Memory = ⊤
+  StopsProgram bytes why =
+      IsProgramWith bytes (λ m. StopsRun storage m.contents inputs outputs limit before after why)
+
+  -- why no run of what is in a file is reported
   abbrev pub WithholdsProgram : List ℕ → Failure → Type 0
   WithholdsProgram bytes (failures.Malformed fault) = IsMalformed bytes fault × (after ≡ before)
   WithholdsProgram bytes (failures.Uncompiled why) =
       ((begins_as_module bytes ≡ false) × IsRefusedFor bytes why.fault) × (after ≡ before)
-  WithholdsProgram bytes failures.Memory = ⊤
+  WithholdsProgram bytes (failures.Stopped why) = StopsProgram bytes why
   WithholdsProgram bytes failure = IsProgramWith bytes (λ m. WithholdsRun m failure)

@@ -6,13 +6,15 @@ use Rattle.module_format.specs.Contents.{Contents}
 use Rattle.module_format.specs.Keeping.{IsFile, IsUpgraded}
 use Rattle.verifier.specs.declared.upgrading.UpgradeFault.{UpgradeFault}
 use Rattle.verifier.specs.declared.upgrading.UpgradeFault.TheVariants as upgrade_faults
+use Rattle.file_access.specs.declared.failure.FileFailure.{FileFailure}
+use Rattle.file_access.specs.declared.failure.FileFailure.TheVariants as stops
+use Rattle.file_access.specs.Writing.{IsWritten, Writes}
 use Rattle.tpm_actions.specs.declared.report.Report.TheVariants.{Upgraded}
 use Rattle.tpm_actions.specs.declared.report.Failure.{Failure}
 use Rattle.tpm_actions.specs.declared.report.Failure.TheVariants as failures
-use Rattle.tpm_actions.specs.Compiling.{IsWritten, Writes}
 use Rattle.tpm_actions.specs.Malformed.{IsMalformed}
 use Rattle.tpm_actions.specs.Texts.{report_line}
-use Rattle.tpm_actions.specs.Storage.{Storage}
+use Rattle.file_access.specs.Storage.{Storage}
 
 -- The bytes are a module file of version 2 already; or of version 1, and memory ran out.
 abbrev pub IsRefusedUpgrade : List ℕ → UpgradeFault → Type 0
@@ -27,7 +29,7 @@ RefusesUpgrade old failure = ⊥
 
 module _ {F R W : Type 0} (storage : Storage F R W) where
   -- The module was upgraded, and what became of the file is this.
-  pub record UpgradesAndWrites (old : List ℕ) (path : Text) (before after : F) (result : Result ⊤ Failure) :
+  pub record UpgradesAndWrites (old : List ℕ) (path : Text) (before after : F) (result : Result ⊤ FileFailure) :
       Type 0 where
     pub bytes : List ℕ
     pub upgraded : IsUpgraded old bytes
@@ -44,7 +46,7 @@ module _ {F R W : Type 0} (storage : Storage F R W) where
   abbrev pub WithholdsUpgrade : List ℕ → Text → F → F → Failure → Type 0
   WithholdsUpgrade old path before after (failures.Malformed fault) = IsMalformed old fault × (after ≡ before)
   WithholdsUpgrade old path before after (failures.NotUpgraded fault) = IsRefusedUpgrade old fault × (after ≡ before)
-  WithholdsUpgrade old path before after failures.Memory =
-      UpgradesAndWrites old path before after (Err failures.Memory)
-      ⊎ ((u : ⊤) × UpgradesAndWrites old path before after (Ok u))
-  WithholdsUpgrade old path before after failure = UpgradesAndWrites old path before after (Err failure)
+  WithholdsUpgrade old path before after (failures.Stopped why) =
+      UpgradesAndWrites old path before after (Err why)
+      ⊎ ((why ≡ stops.Memory) × ((u : ⊤) × UpgradesAndWrites old path before after (Ok u)))
+  WithholdsUpgrade old path before after failure = ⊥

@@ -4,27 +4,24 @@ ghost use Rattle.std.specs.Prelude.{◌≡◌, ℕ, true, false, List, MatchResu
 ghost use Rattle.command_line.specs.Words.{words_of};
 ghost use Rattle.command_line.specs.Links.{paths_of};
 ghost use Rattle.command_line.specs.Asked.{asked_about, asked_of, path_of, runs};
-ghost use Rattle.tpm_actions.specs.Extents.{begins_as_module, extent_of};
+ghost use Rattle.file_access.specs.Extents.{begins_as_module};
+ghost use Rattle.tpm_actions.specs.EnoughRead.{extent_of};
 ghost use Rattle.tpm_actions.specs.Texts.{misuse_status, status_of};
 ghost use Rattle.tpm_actions.specs.Acting.{Acts, Answers, HasRun, IsAccepted, IsTold, IsHindered, Performs, Tells};
 ghost use Rattle.tpm_actions.specs.Acting.{TellsOf, WithholdsOf, WithholdsVerdict};
 ghost use Rattle.tpm_actions.specs.Streams.{has_stream, is_stream_given, sends_out, shown_of};
-ghost use Rattle.tpm_actions.specs.Storage.{storage_of};
+ghost use Rattle.file_access.specs.Storage.{storage_of};
 
 use crate::compiling::compile_to_file;
-use crate::debugging::Debugging;
 use crate::explaining::{explain, explain_source, malformed};
-use crate::extent::{Extent, begins_as_module};
-use crate::files::{FileFault, Files};
 use crate::programs::debug_program;
 use crate::report::{DONE, Failure, MISUSED, Report, STARVED};
-use crate::run_report::run_report;
-use crate::running::run_with_files;
 use crate::telling::tell;
-use crate::tracing::Tracer;
 use crate::upgrading::upgrade_to_file;
 use certificate::Module;
 use command_line::{Line, LineFault, LinkPaths, Question, is_stream, line};
+use file_access::{Extent, FileFailure, FileFault, Files, begins_as_module};
+use file_runs::{Debugging, Tracer, run_report, run_with_files};
 use listings::listing;
 use std::alloc::Global;
 use std::io::Write;
@@ -196,8 +193,8 @@ fn answer<'a, F: Files, T: Write + Drop>(
     let extent = read_extent(line);
     match files.read(path, extent) {
         Ok(bytes) => judge(alloc, bytes.as_slice(), line, files, trace),
-        Err(FileFault::Failed) => Err(Failure::Unread(path)),
-        Err(FileFault::Memory) => Err(Failure::Memory),
+        Err(FileFault::Failed) => Err(Failure::Stopped(FileFailure::Unread(path))),
+        Err(FileFault::Memory) => Err(Failure::Stopped(FileFailure::Memory)),
     }
 }
 

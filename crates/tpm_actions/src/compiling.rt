@@ -1,37 +1,14 @@
 //! The module of a source, written to a file.
 
 ghost use Rattle.std.specs.Prelude.{MatchResult, string_bytes};
-ghost use Rattle.tpm_actions.specs.Compiling.{HasCompiled, WithholdsModule, Writes};
-ghost use Rattle.tpm_actions.specs.Storage.{storage_of};
+ghost use Rattle.tpm_actions.specs.Compiling.{HasCompiled, WithholdsModule};
+ghost use Rattle.file_access.specs.Storage.{storage_of};
 
-use crate::files::{FileFault, Files};
 use crate::refused::refused_source;
 use crate::report::{Failure, Report};
 use compiler::compile;
-use link_runner::write_whole;
+use file_access::{Files, write_file};
 use std::alloc::Global;
-
-/// Creates the file of this path and writes bytes to it. It is closed in any case.
-pub fn write_file<'a, F: Files>(
-    path: &'a str,
-    bytes: &[u8],
-    files: &mut F,
-) -> Result<(), Failure<'a>>
-    ensures { let storage = storage_of F.calls F.Reader.left F.Reader.failed F.Writer.written F.Writer.failed in
-        Writes storage path.entry.now bytes.now files.old files.new result }
-{
-    let mut writer = match files.create(path) {
-        Ok(writer) => writer,
-        Err(FileFault::Failed) => return Err(Failure::Uncreated(path)),
-        Err(FileFault::Memory) => return Err(Failure::Memory),
-    };
-    let written = write_whole(&mut writer, bytes);
-    let closed = files.close(writer);
-    match (written, closed) {
-        (Ok(()), Ok(())) => Ok(()),
-        _ => Err(Failure::Uncreated(path)),
-    }
-}
 
 /// Compiles the source of this path, writes its module to the file `out`, and reports how long it is. The file is not
 /// created unless there is a module.

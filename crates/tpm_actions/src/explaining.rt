@@ -2,9 +2,8 @@
 
 ghost use Rattle.std.specs.Prelude.{◌≡◌, false, IfOk, MatchResult, string_bytes};
 ghost use Rattle.compiler.specs.Compiled.{IsRefusedFor};
-ghost use Rattle.tpm_actions.specs.Extents.{begins_as_module};
+ghost use Rattle.file_access.specs.Extents.{begins_as_module};
 ghost use Rattle.tpm_actions.specs.Explaining.{IsExplained, malformed_text, IsUnread, IsSourceExplained};
-ghost use Rattle.program_walk.specs.Listings.{IsListing};
 ghost use Rattle.tpm_actions.specs.Explaining.{WithholdsExplanation, EndsAsCorrect, EndsWithReason, is_ended, line_count, WithholdsSource};
 ghost use Rattle.tpm_actions.specs.Explaining.{Lists, last_line};
 
@@ -17,9 +16,7 @@ use explanations::{Explained, explanation};
 use file_faults::push_file_fault;
 use module_builder::GenFault;
 use module_format::{FormatFault, MEMORY};
-use occam_layout::lines;
-use occam_parser::parse;
-use program_walk::known_lines;
+use source_reasons::listed;
 use std::alloc::{AllocError, Global};
 use verifier::{Refusal, Stop, verdict_is_right};
 
@@ -87,19 +84,6 @@ fn line_count(source: &[u8]) -> u128
 {
     let ends = ends_in(source) as u128;
     if is_ended(source) { ends } else { ends + 1 }
-}
-
-/// The lines of a program up to one, with what is known on each. They were read before, so that only memory may run out.
-fn listed(alloc: Global, source: &[u8], last: u32) -> Result<String, AllocError>
-    ensures { IfOk result (λ text. IsListing source.now last (string_bytes text)) }
-{
-    let Ok(lines) = lines(alloc, source) else {
-        return Err(AllocError);
-    };
-    match parse(alloc, &lines) {
-        Ok(program) => known_lines(alloc, source, &lines, &program, last),
-        Err(_) => Err(AllocError),
-    }
 }
 
 /// As many lines as a source has, as far as numbers of lines go.

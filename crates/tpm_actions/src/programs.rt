@@ -2,18 +2,16 @@
 
 ghost use Rattle.std.specs.Prelude.{◌≡◌, false, option_map, IfOk, MatchResult, string_bytes};
 ghost use Rattle.command_line.specs.Links.{paths_of};
-ghost use Rattle.tpm_actions.specs.Extents.{begins_as_module};
+ghost use Rattle.file_access.specs.Extents.{begins_as_module};
 ghost use Rattle.compiler.specs.CodeLines.{AreLinesOf};
 ghost use Rattle.tpm_actions.specs.Programs.{lined, TellsModule, TellsProgram, WithholdsProgram, WithholdsRun};
-ghost use Rattle.tpm_actions.specs.Storage.{storage_of};
+ghost use Rattle.file_access.specs.Storage.{storage_of};
 
-use crate::debugging::{Debugged, Debugging, Ending, debug};
-use crate::extent::begins_as_module;
-use crate::files::Files;
 use crate::report::Failure;
-use crate::tracing::Tracer;
 use certificate::Module;
 use compiler::{code_lines, compile};
+use file_access::{FileFailure, Files, begins_as_module};
+use file_runs::{Debugged, Debugging, Ending, Tracer, debug};
 use machine::Observer;
 use source_lines::LineEntry;
 use std::alloc::{AllocError, Global};
@@ -86,7 +84,7 @@ fn debug_source<'a, F: Files, T: Write + Drop>(
             let observer = tracer.with_lines(lines);
             debug_module(alloc, &module, lines, asked, observer, files)
         }
-        Err(_) => Err(Failure::Memory),
+        Err(_) => Err(Failure::Stopped(FileFailure::Memory)),
     }
 }
 

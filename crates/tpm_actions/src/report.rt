@@ -5,7 +5,7 @@ ghost use Rattle.tpm_actions.specs.Texts.{report_text, status_of};
 
 use crate::refused::RefusedSource;
 use compiler::CompileFault;
-use machine_state::Link;
+use file_access::FileFailure;
 use module_format::FormatFault;
 use std::alloc::AllocError;
 use std::fmt;
@@ -33,12 +33,6 @@ pub enum Report {
     Upgraded { bytes: usize },
     /// The most bytes that a run executes.
     Accepted { budget: u64 },
-    /// The module's end was reached, after this number of bytes.
-    Ended { executed: u64 },
-    /// No process is running, after this number of bytes.
-    Idle { executed: u64 },
-    /// The run went on no further after this number of bytes, where something was left to do.
-    Stopped { executed: u64 },
 }
 
 impl fmt::Display for Report {
@@ -49,9 +43,6 @@ impl fmt::Display for Report {
             Report::Compiled { bytes } => write!(f, "compiled {bytes} bytes"),
             Report::Upgraded { bytes } => write!(f, "upgraded {bytes} bytes"),
             Report::Accepted { budget } => write!(f, "accepted, budget {budget}"),
-            Report::Ended { executed } => write!(f, "ended, {executed} bytes executed"),
-            Report::Idle { executed } => write!(f, "idle, {executed} bytes executed"),
-            Report::Stopped { executed } => write!(f, "stopped, {executed} bytes executed"),
         }
     }
 }
@@ -100,24 +91,12 @@ pub enum Failure<'a> {
     /// The module is not upgraded.
     #[error("refused U{}", .0.number())]
     NotUpgraded(UpgradeFault),
-    /// The file of this path was not read or opened.
-    #[error("cannot read {0}")]
-    Unread(&'a str),
-    /// The file of this path was not created, or not written.
-    #[error("cannot write {0}")]
-    Uncreated(&'a str),
-    /// A read of this input link failed.
-    #[error("link in{} read failed", .0.index())]
-    ReadFailed(Link),
-    /// A write on this output link failed.
-    #[error("link out{} write failed", .0.index())]
-    WriteFailed(Link),
+    /// A file or a link failed, or memory ran out.
+    #[error("{0}")]
+    Stopped(FileFailure<'a>),
     /// The report was not written.
     #[error("cannot write standard output")]
     Unwritten,
-    /// Memory ran out.
-    #[error("out of memory")]
-    Memory,
 }
 
 impl From<FormatFault> for Failure<'_> {
@@ -165,11 +144,22 @@ impl From<UpgradeFault> for Failure<'_> {
 
 impl From<AllocError> for Failure<'_> {
     ghost use Rattle.tpm_actions.specs.declared.report.Failure.TheVariants as failures;
+    ghost use Rattle.file_access.specs.declared.failure.FileFailure.TheVariants as stops;
 
-    ghost from_gives = { λ _ failure. failure ≡ failures.Memory };
+    ghost from_gives = { λ _ failure. failure ≡ failures.Stopped stops.Memory };
 
     fn from(_error: AllocError) -> Self {
-        Failure::Memory
+        Failure::Stopped(FileFailure::Memory)
+    }
+}
+
+impl<'a> From<FileFailure<'a>> for Failure<'a> {
+    ghost use Rattle.tpm_actions.specs.declared.report.Failure.TheVariants as failures;
+
+    ghost from_gives = { λ why failure. failure ≡ failures.Stopped why };
+
+    fn from(why: FileFailure<'a>) -> Self {
+        Failure::Stopped(why)
     }
 }
 
@@ -185,12 +175,8 @@ impl Failure<'_> {
             | Failure::Faulted { .. }
             | Failure::Uncompiled(_)
             | Failure::NotUpgraded(_) => REFUSED,
-            Failure::Unread(_)
-            | Failure::Uncreated(_)
-            | Failure::ReadFailed(_)
-            | Failure::WriteFailed(_)
-            | Failure::Unwritten => FAILED,
-            Failure::Memory => STARVED,
+            Failure::Stopped(FileFailure::Memory) => STARVED,
+            Failure::Stopped(_) | Failure::Unwritten => FAILED,
         }
     }
 }

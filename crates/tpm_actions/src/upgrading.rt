@@ -3,12 +3,11 @@
 ghost use Rattle.std.specs.Prelude.{MatchResult, string_bytes};
 ghost use Rattle.module_format.specs.Keeping.{IsUpgraded};
 ghost use Rattle.tpm_actions.specs.Upgrading.{HasUpgraded, RefusesUpgrade, WithholdsUpgrade};
-ghost use Rattle.tpm_actions.specs.Storage.{storage_of};
+ghost use Rattle.file_access.specs.Storage.{storage_of};
 
-use crate::compiling::write_file;
-use crate::files::Files;
 use crate::report::{Failure, Report};
 use certificate::ModuleFile;
+use file_access::{Files, write_file};
 use std::alloc::Global;
 use verifier::upgrade;
 

@@ -1,4 +1,4 @@
-use Rattle.tpm_actions.specs.Storage.{storage_of}
+use Rattle.file_access.specs.Storage.{storage_of}
 use Rattle.debugged_runs.proofs.WellRuns.{is_cut_below_budget}
 use Rattle.debugged_runs.proofs.laws.certified_modules_are_cut_below_their_budget.Goals as goal
 

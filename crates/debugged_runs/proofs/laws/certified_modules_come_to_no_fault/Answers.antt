@@ -1,4 +1,4 @@
-use Rattle.tpm_actions.specs.Storage.{storage_of}
+use Rattle.file_access.specs.Storage.{storage_of}
 use Rattle.debugged_runs.proofs.WellRuns.{never_faults}
 use Rattle.debugged_runs.proofs.laws.certified_modules_come_to_no_fault.Goals as goal
 

@@ -1,4 +1,4 @@
-use Rattle.tpm_actions.specs.Storage.{storage_of}
+use Rattle.file_access.specs.Storage.{storage_of}
 use Rattle.debugged_runs.proofs.SameRuns.{debug_agrees_with_run}
 use Rattle.debugged_runs.proofs.laws.debugged_runs_agree_with_runs.Goals as goal
 

@@ -1,4 +1,4 @@
-use Rattle.tpm_actions.specs.Storage.{storage_of}
+use Rattle.file_access.specs.Storage.{storage_of}
 use Rattle.debugged_runs.proofs.SameRuns.{over_is_run}
 use Rattle.debugged_runs.proofs.laws.debugged_runs_are_runs.Goals as goal
 

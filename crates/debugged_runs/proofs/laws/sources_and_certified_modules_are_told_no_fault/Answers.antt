@@ -1,4 +1,4 @@
-use Rattle.tpm_actions.specs.Storage.{storage_of}
+use Rattle.file_access.specs.Storage.{storage_of}
 use Rattle.debugged_runs.proofs.WellRuns.{tells_no_fault}
 use Rattle.debugged_runs.proofs.laws.sources_and_certified_modules_are_told_no_fault.Goals as goal
 

@@ -1,4 +1,4 @@
-use Rattle.tpm_actions.specs.Storage.{storage_of}
+use Rattle.file_access.specs.Storage.{storage_of}
 use Rattle.tpm_actions.proofs.Acts.{acts_told, acts_failed}
 use Rattle.tpm_actions.proofs.acting.act.Goals as goal
 

@@ -1,5 +1,5 @@
 use Rattle.std.proofs.Common.{string_bytes, inl}
-use Rattle.tpm_actions.specs.Storage.{storage_of}
+use Rattle.file_access.specs.Storage.{storage_of}
 use Rattle.tpm_actions.proofs.Answered.{answered}
 use Rattle.tpm_actions.proofs.acting.answer.Goals as goal
 

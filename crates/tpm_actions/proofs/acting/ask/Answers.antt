@@ -1,5 +1,5 @@
 use Rattle.std.proofs.Common.{rules, string_bytes}
-use Rattle.tpm_actions.specs.Storage.{storage_of}
+use Rattle.file_access.specs.Storage.{storage_of}
 use Rattle.tpm_actions.proofs.Judged.{replied, unread}
 use Rattle.tpm_actions.proofs.acting.ask.Goals as goal
 

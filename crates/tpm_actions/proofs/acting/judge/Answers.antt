@@ -1,5 +1,5 @@
 use Rattle.std.proofs.Common.{string_bytes}
-use Rattle.tpm_actions.specs.Storage.{storage_of}
+use Rattle.file_access.specs.Storage.{storage_of}
 use Rattle.std.proofs.Common.{option_map}
 use Rattle.command_line.specs.Links.{paths_of}
 use Rattle.tpm_actions.proofs.Judged.{module_judged, upgrade_judged, program_judged}

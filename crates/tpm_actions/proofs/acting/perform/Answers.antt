@@ -1,6 +1,6 @@
 use Rattle.std.proofs.Common.{[], Err, string_bytes, subst}
 use Rattle.command_line.specs.Words.{Text}
-use Rattle.tpm_actions.specs.Storage.{storage_of}
+use Rattle.file_access.specs.Storage.{storage_of}
 use Rattle.tpm_actions.specs.Acting.{Tells}
 use Rattle.command_line.specs.Asked.{asked_of}
 use Rattle.tpm_actions.specs.Streams.{shown_of}

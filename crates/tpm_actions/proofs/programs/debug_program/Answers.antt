@@ -1,6 +1,6 @@
 use Rattle.std.proofs.Common.{option_map, string_bytes, refl, rules}
 use Rattle.command_line.specs.Links.{paths_of}
-use Rattle.tpm_actions.specs.Storage.{storage_of}
+use Rattle.file_access.specs.Storage.{storage_of}
 use Rattle.tpm_actions.specs.Programs.{lined, is_module}
 use Rattle.tpm_actions.proofs.ProgramsRun.{programmed}
 use Rattle.tpm_actions.proofs.programs.debug_program.Goals as goal

@@ -1,7 +1,7 @@
 use Rattle.std.proofs.Common.{ℕ, List, option_map, string_bytes, subst, sym}
 use Rattle.module_format.specs.Keeping.{Format}
 use Rattle.command_line.specs.Links.{paths_of}
-use Rattle.tpm_actions.specs.Storage.{storage_of}
+use Rattle.file_access.specs.Storage.{storage_of}
 use Rattle.compiler.specs.CodeLines.{AreLinesOf}
 use Rattle.tpm_actions.specs.Programs.{lined, is_source}
 use Rattle.tpm_actions.proofs.ProgramsRun.{programmed}

@@ -1,0 +1,3 @@
+pub mod FilesClosed
+pub mod FilesRun
+pub mod Driven

@@ -1,0 +1,4 @@
+pub mod RunTexts
+pub mod FilesInOrder
+pub mod FilesOnLinks
+pub mod Debugging
