@@ -72,6 +72,11 @@ pub where_ok : {A E : Type 0} (r : Result A E) {P Q : A → Type 0} → ((x : A)
 where_ok (Ok x) f h = f x h
 where_ok (Err e) f h = tt
 
+pub both_ok : {A E : Type 0} (r : Result A E) {P Q R : A → Type 0} → ((x : A) → P x → Q x → R x) → IfOk r P → IfOk r Q
+    → IfOk r R
+both_ok (Ok x) f g h = f x g h
+both_ok (Err e) f g h = tt
+
 pub writes_branch : (around : calling.Surroundings) (line : ℕ) (g : Guard) (p : Process) (x : Exits)
     (s row guard within moved w : ProcessWriter) (stops : Option ℕ)
     → row.listing ≡ s.listing ++ row_of x.here (frame_seen s.frame) (known_of s.scope) ∷ [] → site_of row ≡ site_of s

@@ -129,8 +129,7 @@ impl<'a> ProcessWriter<'a> {
         self.scope.begin()?;
         self.write_branches(around, labels, &guards, branches)?;
         self.scope.end();
-        self.write_row(around.limits, labels.end)?;
-        Ok(())
+        self.write_row(around.limits, labels.end)
     }
 
     /// The branches of an `ALT`.
@@ -181,8 +180,7 @@ impl<'a> ProcessWriter<'a> {
         self.write_branch_turns(around, labels, &guards, turns, branch)?;
         self.frame.leave(names, top);
         self.scope.end();
-        self.write_row(around.limits, labels.end)?;
-        Ok(())
+        self.write_row(around.limits, labels.end)
     }
 
     /// A branch under a replicator, once for each turn.
@@ -221,8 +219,7 @@ impl<'a> ProcessWriter<'a> {
         self.write(around, &branch.process)?;
         self.scope.next();
         self.listing.push(Piece::Jump { to: exits.end })?;
-        self.write_stop_at(around.limits, stops)?;
-        Ok(())
+        self.write_stop_at(around.limits, stops)
     }
 
     /// A guard that is chosen. Where it does not hold, code goes on at the next one that waits for the same. If there

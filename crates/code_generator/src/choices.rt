@@ -201,8 +201,7 @@ impl<'a> ProcessWriter<'a> {
         self.scope.begin()?;
         self.write_choices(around, end, choices)?;
         self.scope.end();
-        self.write_row(around.limits, end)?;
-        Ok(())
+        self.write_row(around.limits, end)
     }
 
     /// The choices of an `IF` that ends at a label.
@@ -223,8 +222,7 @@ impl<'a> ProcessWriter<'a> {
         for choice in ended.tested {
             self.write_tested(around, end, choice)?;
         }
-        self.write_ending(around, end, ended.ending)?;
-        Ok(())
+        self.write_ending(around, end, ended.ending)
     }
 
     /// What comes after the choices that are tested, of an `IF` that ends at a label.
@@ -272,8 +270,7 @@ impl<'a> ProcessWriter<'a> {
         self.write_test(around.limits, &choice.condition, other)?;
         self.write_taken(around, choice)?;
         self.listing.push(Piece::Jump { to: end })?;
-        self.write_row(around.limits, other)?;
-        Ok(())
+        self.write_row(around.limits, other)
     }
 
     /// A choice with its test, which jumps to the end of the `IF`.
@@ -292,8 +289,7 @@ impl<'a> ProcessWriter<'a> {
             → around.now.limits.is_sequential ≡ false }
     {
         self.write_test(around.limits, &choice.condition, end)?;
-        self.write_taken(around, choice)?;
-        Ok(())
+        self.write_taken(around, choice)
     }
 
     /// A choice without its test.
@@ -352,8 +348,7 @@ impl<'a> ProcessWriter<'a> {
         )?;
         self.frame.leave(names, top);
         self.scope.end();
-        self.write_row(around.limits, end)?;
-        Ok(())
+        self.write_row(around.limits, end)
     }
 
     /// A choice in `count` turns, of an `IF` that ends at a label.
@@ -384,7 +379,6 @@ impl<'a> ProcessWriter<'a> {
             return Ok(self.listing.operate(operations::STOP_PROCESS)?);
         }
         add_name(&mut self.scope, name, repeats.index_in(tested))?;
-        self.write_taken(around, choice)?;
-        Ok(())
+        self.write_taken(around, choice)
     }
 }

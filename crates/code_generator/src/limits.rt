@@ -5,7 +5,7 @@ ghost use Rattle.line_pieces.specs.Limits.{is_too_much};
 ghost use Rattle.code_generator.specs.Written.{Spends};
 
 use crate::processes::ProcessWriter;
-use line_pieces::{GREATEST_ROWS, GREATEST_SAID, Listing, plus, size_of_count};
+use line_pieces::{GREATEST_ROWS, GREATEST_SAID, Listing};
 use module_builder::GenFault;
 use program_sizes::GREATEST_SIZE;
 
@@ -17,7 +17,7 @@ pub(crate) const GREATEST_DEPTH: u32 = 2_048;
 pub(crate) const INSTANCE_DEPTH: u32 = 2;
 
 /// How many PARs a module may have.
-const GREATEST_PARS: u32 = 1_024;
+const GREATEST_PARS: usize = 1_024;
 
 /// What bounds the code of a program. Of a sequential one what is gone over is bounded before (`program_work`), and
 /// while it is written only its rows are asked.
@@ -60,15 +60,15 @@ impl Limits {
     }
 }
 
-/// What was done so far.
+/// What was done so far. Too much stays too much: whether it is so is asked once for all that is counted in a call.
 #[derive(Clone, Copy)]
 pub(crate) struct Spent {
     /// The sizes of all lines that were gone over, those in procedures for each instance.
-    walked: u32,
-    rows: u32,
+    walked: usize,
+    rows: usize,
     /// The entries of all rows, and what branches of PARs use.
-    said: u32,
-    pars: u32,
+    said: usize,
+    pars: usize,
 }
 
 impl Spent {
@@ -82,16 +82,28 @@ impl Spent {
         }
     }
 
+    /// The error is [`GenFault::Limit`] if too much was done.
+    fn ask(self) -> Result<(), GenFault> {
+        if self.walked > GREATEST_SIZE as usize
+            || self.rows > GREATEST_ROWS
+            || self.said > GREATEST_SAID
+            || self.pars > GREATEST_PARS
+        {
+            return Err(GenFault::Limit);
+        }
+        Ok(())
+    }
+
     /// There is a `PAR` more.
     pub(crate) fn count_par(&mut self) -> Result<(), GenFault> {
-        self.pars = plus(self.pars, 1, GREATEST_PARS)?;
-        Ok(())
+        self.pars = self.pars.saturating_add(1);
+        self.ask()
     }
 
     /// A branch uses `notes` words and ends of channels.
     pub(crate) fn count_notes(&mut self, notes: usize) -> Result<(), GenFault> {
-        self.said = plus(self.said, size_of_count(notes)?, GREATEST_SAID as u32)?;
-        Ok(())
+        self.said = self.said.saturating_add(notes);
+        self.ask()
     }
 }
 
@@ -110,23 +122,13 @@ impl ProcessWriter<'_> {
         if limits.is_sequential {
             return Ok(());
         }
-        self.spent.walked = plus(self.spent.walked, size, GREATEST_SIZE)?;
+        self.spent.walked = self.spent.walked.saturating_add(size as usize);
+        self.spent.ask()?;
         self.listing.spend(reading)
     }
 
-    /// The names that are known are looked at for a row. Of a sequential program nothing is counted.
-    pub(crate) fn look_around(&mut self, limits: Limits) -> Result<(), GenFault>
-        ensures ok { IfOk result (λ _. Spends self.old self.new) }
-        ensures limit { result ≡ Err GenFault.Limit → limits.is_sequential ≡ false }
-        ensures invalid { result ≡ Err GenFault.Invalid → limits.is_sequential ≡ false }
-    {
-        if limits.is_sequential {
-            return Ok(());
-        }
-        self.listing.look_at(self.frame.homes.len())
-    }
-
-    /// A row has `entries` entries. Of a sequential program nothing is counted.
+    /// A row has `entries` entries, for which the names that are known were looked at. Of a sequential program nothing is
+    /// counted.
     pub(crate) fn say(&mut self, limits: Limits, entries: usize) -> Result<(), GenFault>
         ensures ok { IfOk result (λ _. Spends self.old self.new) }
         ensures limit { result ≡ Err GenFault.Limit → limits.is_sequential ≡ false }
@@ -135,9 +137,9 @@ impl ProcessWriter<'_> {
         if limits.is_sequential {
             return Ok(());
         }
-        let entries = size_of_count(entries)?;
-        self.spent.rows = plus(self.spent.rows, 1, GREATEST_ROWS as u32)?;
-        self.spent.said = plus(self.spent.said, entries, GREATEST_SAID as u32)?;
-        Ok(())
+        self.spent.rows = self.spent.rows.saturating_add(1);
+        self.spent.said = self.spent.said.saturating_add(entries);
+        self.spent.ask()?;
+        self.listing.look_at(self.frame.homes.len())
     }
 }

@@ -8,12 +8,13 @@ ghost use Rattle.program_uses.specs.Indices.{seen_repeats};
 ghost use Rattle.line_pieces.specs.Opening.{starts_code, opener_code};
 ghost use Rattle.code_generator.specs.Branches.{IsKept, EntersBranch, LeavesBranch, WritesComponent, WritesPar};
 ghost use Rattle.code_generator.specs.Branches.{WritesTurns, WritesRepeatedPar};
+ghost use Rattle.code_generator.specs.Written.{site_of};
 
 use crate::calling::Surroundings;
 use crate::context::Context;
 use crate::limits::Limits;
 use crate::processes::ProcessWriter;
-use code_pieces::{Par, Piece};
+use code_pieces::{Par, Piece, Workspace};
 use line_pieces::{
     Access, Branch, ChannelPlace, Fork, Home, Listing, Notes, facts_in, label_after, row_word,
 };
@@ -137,15 +138,40 @@ impl<'a> ProcessWriter<'a> {
         }
         self.label = label_after(entry)?;
         let context = self.context.branch(entry, fork.next)?;
+        let workspace = context.workspace()?;
         let listing = self.listing.branch(self.alloc, fork.next, fork.pieces);
         let outside = Outside {
             context: mem::replace(&mut self.context, context),
             top: mem::replace(&mut self.frame.top, context.first_word()),
             listing: mem::replace(&mut self.listing, listing),
         };
-        self.listing.push(Piece::Within(context.workspace()?))?;
-        self.write_row(limits, entry)?;
+        self.write_within(limits, workspace, entry)?;
         Ok(outside)
+    }
+
+    /// The code from a label on has its workspace there.
+    fn write_within(
+        &mut self,
+        limits: Limits,
+        workspace: Workspace,
+        label: usize,
+    ) -> Result<(), GenFault>
+        ensures { IfOk result (λ _. site_of self.new ≡ site_of self.old) }
+    {
+        self.listing.push(Piece::Within(workspace))?;
+        self.write_row(limits, label)
+    }
+
+    /// The process of a branch ends, which changes the variables with these numbers. The block of its `PAR` is at this
+    /// word.
+    fn close_branch(&mut self, block: u32, changed: &[usize]) -> Result<(), GenFault>
+        ensures scope { IfOk result (λ _. self.new.scope ≡ self.old.scope) }
+        ensures frame { IfOk result (λ _. self.new.frame ≡ self.old.frame) }
+    {
+        self.listing.write_end(block)?;
+        let (scope, homes) = (&self.scope, &self.frame.homes);
+        note_changed(&mut self.listing, scope, homes, changed)?;
+        self.spent.count_notes(count_of(&self.listing.notes))
     }
 
     /// The code of a branch ends, which has its entry at this label and changes the variables with these numbers.
@@ -158,18 +184,12 @@ impl<'a> ProcessWriter<'a> {
     ) -> Result<(), GenFault>
         ensures { IfOk result (λ _. LeavesBranch self.old self.new outside) }
     {
-        let Outside {
-            context,
-            top,
-            listing,
-        } = outside;
-        self.listing.write_end(context.depth)?;
-        let branch = mem::replace(&mut self.context, context);
-        let mut code = mem::replace(&mut self.listing, listing);
-        note_changed(&mut code, &self.scope, &self.frame.homes, changed)?;
+        let block = outside.context.depth;
+        self.close_branch(block, changed)?;
+        let branch = mem::replace(&mut self.context, outside.context);
+        let code = mem::replace(&mut self.listing, outside.listing);
+        self.frame.top = outside.top;
         self.listing.go_on_after(&code)?;
-        self.frame.top = top;
-        self.spent.count_notes(count_of(&code.notes))?;
         fork.add(self.alloc, entry, branch.depth, code)
     }
 
@@ -205,7 +225,8 @@ impl<'a> ProcessWriter<'a> {
         let depth = self.context.depth;
         let from = self.label;
         self.label = label_after(from)?;
-        let ends = i32::try_from(branches.len() + 1).map_err(|_| GenFault::Limit)?;
+        let count = branches.len() + 1;
+        let ends = i32::try_from(count).ok().ok_or(GenFault::Limit)?;
         self.listing.write_empty_channels(channels)?;
         self.listing.write_block(depth, from, successor, ends)?;
         self.write_starts(branches, successor)?;
@@ -225,8 +246,7 @@ impl<'a> ProcessWriter<'a> {
         let channels = channels_of(self.alloc, &fork.branches, self.listing.notes.outside)?;
         self.write_opener(&fork.branches, &channels, successor)?;
         let branches = self.listing.take_branches(self.alloc, fork.branches)?;
-        self.listing.push(Piece::Within(opener))?;
-        self.write_row(limits, successor)?;
+        self.write_within(limits, opener, successor)?;
         self.listing.push(Piece::Par(Par {
             opener,
             successor,
@@ -260,8 +280,7 @@ impl<'a> ProcessWriter<'a> {
             self.write_component(around, &mut fork, process)?;
         }
         self.scope.end();
-        self.write_fork(around.limits, fork)?;
-        Ok(())
+        self.write_fork(around.limits, fork)
     }
 
     /// A component of a `PAR`.
@@ -310,8 +329,7 @@ impl<'a> ProcessWriter<'a> {
         self.write_components(around, &mut fork, replicator.name, repeats, process)?;
         self.frame.leave(names, top);
         self.scope.end();
-        self.write_turns_fork(around.limits, fork)?;
-        Ok(())
+        self.write_turns_fork(around.limits, fork)
     }
 
     /// The components of a `PAR` under a replicator.

@@ -183,7 +183,6 @@ impl<'a> ProcessWriter<'a> {
             (row_of label (frame_seen self.old.frame) (known_of self.old.scope) ∷ []) }
         ensures invalid { result ≡ Err GenFault.Invalid → limits.is_sequential ≡ false }
     {
-        self.look_around(limits)?;
         let entries = facts_in(self.alloc, &self.scope, &self.frame)?;
         self.say(limits, entries.len())?;
         self.listing.push(Piece::Row { label, entries })?;
@@ -385,8 +384,7 @@ impl<'a> ProcessWriter<'a> {
         let mut body = self.begin_instance(around.limits, call.callee, passed)?;
         let process = &call.callee.proc.body;
         body.write(&call.inside, process)?;
-        self.end_instance(body, passed)?;
-        Ok(())
+        self.end_instance(body, passed)
     }
 
     /// The processes of a `SEQ`.
@@ -493,8 +491,7 @@ impl<'a> ProcessWriter<'a> {
             base: value_or_zero(&self.scope, &replicator.base),
             count,
         };
-        self.write_turning(around, turning, changed, process)?;
-        Ok(())
+        self.write_turning(around, turning, changed, process)
     }
 
     /// A loop with turns.
@@ -519,7 +516,6 @@ impl<'a> ProcessWriter<'a> {
         let word = self.frame.top;
         self.enter_loop(around.limits, turning, changed)?;
         self.write_one(around, process)?;
-        self.leave_loop(around.limits, names, word, head)?;
-        Ok(())
+        self.leave_loop(around.limits, names, word, head)
     }
 }

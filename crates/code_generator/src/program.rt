@@ -116,7 +116,7 @@ impl<'a> ProcessWriter<'a> {
             Item::Constant(constant) => self.declare_constant(constant),
             Item::Proc(proc) => {
                 let names = self.frame.homes.len();
-                let number = u32::try_from(callees.len()).map_err(|_| AllocError)?;
+                let number = u32::try_from(callees.len()).ok().ok_or(AllocError)?;
                 self.declare_procedure(proc, number)?;
                 callees.push(Callee { proc, names })?;
                 Ok(())

@@ -142,7 +142,7 @@ impl Listing {
         match target {
             Target::Nothing => Ok(()),
             Target::Word { word, .. } | Target::Known { word, .. } | Target::Other { word, .. } => {
-                self.accesses(word, access)
+                self.notes.note_word(word, access)
             }
         }
     }
@@ -197,7 +197,7 @@ impl Listing {
                 value_type: ValueType::Byte,
                 word,
             } => {
-                self.writes(word)?;
+                self.notes.note_word(word, Access::Writes)?;
                 self.point(word)?;
                 self.operate(operations::LOAD_BYTE)?;
                 self.store(word)
@@ -242,7 +242,8 @@ impl Listing {
             return Ok(());
         };
         let length = message_length(setting.scope.meaning(channel.name));
-        self.uses(ChannelEnd { place, way }, length.unsigned_abs())
+        let end = ChannelEnd { place, way };
+        self.notes.note_end(end, length.unsigned_abs())
     }
 
     /// The channel, the length of its messages and `in` or `out`, after the address of a message.

@@ -8,7 +8,7 @@ ghost use Rattle.line_pieces.specs.declared.noting.Access.TheVariants as access;
 ghost use Rattle.line_pieces.specs.Cutting.{uses_of, known_outside, words_between, cut_entry, cut_entries};
 ghost use Rattle.line_pieces.specs.Cutting.{cut_piece, is_used, words_at, all_words};
 
-use crate::facts::push_any;
+use crate::facts::{push_any, push_made};
 use crate::listing::Listing;
 use crate::marking::LineMark;
 use crate::noting::{Access, Notes, row_word};
@@ -63,7 +63,7 @@ fn last_index(base: i32, count: u32) -> Result<i32, GenFault>
     ensures { IfOk result (λ last. last ≡ base +ℤ (pos count -ℤ pos 1)) }
 {
     let last = i64::from(base) + (i64::from(count) - 1);
-    i32::try_from(last).map_err(|_| GenFault::Limit)
+    i32::try_from(last).ok().ok_or(GenFault::Limit)
 }
 
 /// What another process knows of words: of a loop, the index alone.
@@ -128,7 +128,7 @@ impl Notes {
     {
         let mut cut = Vec::with_capacity(alloc, pieces.len())?;
         for piece in pieces {
-            cut.push(self.cut_piece(alloc, piece)?)?;
+            push_made(&mut cut, self.cut_piece(alloc, piece))?;
         }
         Ok(cut)
     }
@@ -176,7 +176,7 @@ impl Notes {
     fn all_ends(&self, alloc: Global) -> Result<Vec<EndRow>, GenFault> {
         let mut ends = Vec::new(alloc);
         for (end, _length) in &self.ends {
-            ends.push(end.row()?)?;
+            push_made(&mut ends, end.row())?;
         }
         Ok(ends)
     }
@@ -196,11 +196,13 @@ impl Notes {
             ++ words_between self.now.outside above ∷ []) }
         ensures reads { IfOk result (λ row. row.reads.items ≡ all_words access.Reads (uses_of self.now) known.now) }
     {
+        let depth = row_word(depth)?;
+        let own = words_between(self.outside, above)?;
         let mut writes = self.all_words(alloc, known, Access::Writes)?;
-        writes.push(words_between(self.outside, above)?)?;
+        writes.push(own)?;
         Ok(ParBranch {
             entry,
-            depth: row_word(depth)?,
+            depth,
             writes,
             reads: self.all_words(alloc, known, Access::Reads)?,
             ends: self.all_ends(alloc)?,

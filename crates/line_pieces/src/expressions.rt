@@ -22,6 +22,7 @@ ghost use Rattle.line_pieces.specs.Expressions.{comparison_pushes, comparison_co
 
 use crate::home::Home;
 use crate::listing::Listing;
+use crate::noting::Access;
 use crate::setting::word_after;
 use code_pieces::operations;
 use occam_parser::{
@@ -411,12 +412,12 @@ impl Listing {
     {
         match home {
             Some(Home::Passed(word)) if is_reference => {
-                self.reads(*word)?;
+                self.notes.note_word(*word, Access::Reads)?;
                 self.point(*word)?;
                 self.operate(operations::LOAD_BYTE)
             }
             Some(Home::Word(word) | Home::Block { word, .. } | Home::Passed(word)) => {
-                self.reads(*word)?;
+                self.notes.note_word(*word, Access::Reads)?;
                 self.load(*word)
             }
             Some(Home::Nowhere | Home::Link(_) | Home::Table(_)) | None => Ok(()),

@@ -1,6 +1,6 @@
 //! What rows say: what a scope knows of words.
 
-ghost use Rattle.std.specs.Prelude.{◌≡◌, ◌++◌, IfOk, option_map, option_to_list};
+ghost use Rattle.std.specs.Prelude.{◌≡◌, ◌++◌, ◌∷◌, [], IfOk, MatchResult, Err, option_map, option_to_list};
 ghost use Rattle.word_arithmetic.specs.Range.{ends_of};
 ghost use Rattle.scalar_ranges.specs.Entries.{entry_at};
 ghost use Rattle.scalar_ranges.specs.Scopes.{entries_of, entry_of, meaning_of};
@@ -13,6 +13,7 @@ use crate::declaring::words_for;
 use crate::frame::Frame;
 use crate::home::Home;
 use code_pieces::{RowEntry, WordFact};
+use module_builder::GenFault;
 use scalar_ranges::{Entry, Meaning, Scope};
 use std::alloc::{AllocError, Global};
 use word_arithmetic::Range;
@@ -103,13 +104,15 @@ pub(crate) fn push_any<T: Drop>(entries: &mut Vec<T>, entry: Option<T>) -> Resul
     Ok(())
 }
 
-/// Some entries more.
-fn push_all(entries: &mut Vec<RowEntry>, others: &[RowEntry]) -> Result<(), AllocError>
-    ensures { IfOk result (λ _. entries.new.items ≡ entries.old.items ++ others.now) }
+/// One item more, if it was made.
+pub(crate) fn push_made<T: Drop>(
+    items: &mut Vec<T>,
+    made: Result<T, GenFault>,
+) -> Result<(), GenFault>
+    ensures { MatchResult made (λ item. IfOk result (λ _. items.new.items ≡ items.old.items ++ item ∷ []))
+        (λ e. result ≡ Err e) }
 {
-    for entry in others {
-        entries.push(*entry)?;
-    }
+    items.push(made?)?;
     Ok(())
 }
 
@@ -129,8 +132,7 @@ pub fn facts_in(alloc: Global, scope: &Scope, frame: &Frame) -> Result<Vec<RowEn
     ensures { IfOk result (λ entries. entries.items ≡ facts_in (frame_seen frame.now) (entries_of scope.now)) }
 {
     let own = facts_of(alloc, scope, &frame.homes)?;
-    let mut entries = Vec::new(alloc);
-    push_all(&mut entries, &frame.outer)?;
-    push_all(&mut entries, &own)?;
+    let mut entries = Vec::from_slice(alloc, &frame.outer)?;
+    entries.extend_from_slice(&own)?;
     Ok(entries)
 }

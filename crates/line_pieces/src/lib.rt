@@ -22,7 +22,7 @@ mod writing;
 mod zeroing;
 
 pub use branches::{Branch, Fork};
-pub use counting::{label_after, plus, size_of_count};
+pub use counting::label_after;
 pub use declaring::{channels_in, declare_names, home_for, words_in};
 pub use expressions::single;
 pub use facts::{facts_in, is_in};

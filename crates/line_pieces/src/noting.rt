@@ -3,7 +3,6 @@
 ghost use Rattle.std.specs.Prelude.{◌≡◌, IfOk, pos};
 ghost use Rattle.line_pieces.specs.Noted.{end_row};
 
-use crate::listing::Listing;
 use module_builder::GenFault;
 use module_format::{Direction, EndKind, EndRow};
 use std::alloc::{AllocError, Global};
@@ -58,7 +57,7 @@ impl ChannelEnd {
 pub fn row_word(word: u32) -> Result<i32, GenFault>
     ensures { IfOk result (λ n. n ≡ pos word) }
 {
-    i32::try_from(word).map_err(|_| GenFault::Limit)
+    i32::try_from(word).ok().ok_or(GenFault::Limit)
 }
 
 /// What code uses of what is outside of its process.
@@ -119,38 +118,6 @@ impl Notes {
         for (end, length) in &within.ends {
             self.note_end(*end, *length)?;
         }
-        Ok(())
-    }
-}
-
-impl Listing {
-    /// The variable with this first word is used.
-    pub(crate) fn accesses(&mut self, word: u32, access: Access) -> Result<(), AllocError>
-        ensures { self.new ≡ self.old }
-    {
-        self.notes.note_word(word, access)?;
-        Ok(())
-    }
-
-    /// The variable with this first word is read.
-    pub(crate) fn reads(&mut self, word: u32) -> Result<(), AllocError>
-        ensures { self.new ≡ self.old }
-    {
-        self.accesses(word, Access::Reads)
-    }
-
-    /// The variable with this first word is written.
-    pub(crate) fn writes(&mut self, word: u32) -> Result<(), AllocError>
-        ensures { self.new ≡ self.old }
-    {
-        self.accesses(word, Access::Writes)
-    }
-
-    /// An end of a channel is used whose messages have `length` bytes.
-    pub(crate) fn uses(&mut self, end: ChannelEnd, length: u32) -> Result<(), AllocError>
-        ensures { self.new ≡ self.old }
-    {
-        self.notes.note_end(end, length)?;
         Ok(())
     }
 }

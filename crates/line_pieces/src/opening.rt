@@ -5,12 +5,13 @@ ghost use Rattle.code_pieces.specs.PieceViews.{pieces_of};
 ghost use Rattle.line_pieces.specs.Opening.{emptied, block_code, start_code, end_code, branches_code, row_in};
 
 use crate::branches::Branch;
+use crate::facts::push_made;
 use crate::listing::Listing;
 use crate::setting::word_after;
 use code_pieces::{ParBranch, Piece, operations};
 use module_builder::GenFault;
 use module_format::ChannelRow;
-use std::alloc::Global;
+use std::alloc::{AllocError, Global};
 
 impl Listing {
     /// Channels are empty.
@@ -79,23 +80,32 @@ impl Listing {
         Ok(())
     }
 
+    /// What a branch uses, and the lines of its pieces.
+    fn note_branch(&mut self, branch: &Branch) -> Result<(), AllocError>
+        ensures { IfOk result (λ _. self.new ≡ self.old) }
+    {
+        self.notes.note_all(&branch.notes)?;
+        self.take_marks(&branch.marks)
+    }
+
+    /// The pieces of a branch.
+    fn take_pieces(&mut self, pieces: Vec<Piece>) -> Result<(), AllocError>
+        ensures { IfOk result (λ _. self.new ≡ self.old ++ pieces_of pieces.items) }
+    {
+        for piece in pieces {
+            self.push(piece)?;
+        }
+        Ok(())
+    }
+
     /// The code of a branch.
     fn take_branch(&mut self, branch: Branch) -> Result<ParBranch, GenFault>
         ensures code { IfOk result (λ _. self.new ≡ self.old ++ pieces_of branch.pieces.items) }
         ensures row { IfOk result (λ row. row ≡ branch.row) }
     {
-        let Branch {
-            pieces,
-            notes,
-            marks,
-            row,
-            ..
-        } = branch;
-        self.notes.note_all(&notes)?;
-        self.take_marks(&marks)?;
-        for piece in pieces {
-            self.push(piece)?;
-        }
+        self.note_branch(&branch)?;
+        let Branch { pieces, row, .. } = branch;
+        self.take_pieces(pieces)?;
         Ok(row)
     }
 
@@ -110,7 +120,7 @@ impl Listing {
     {
         let mut rows = Vec::new(alloc);
         for branch in branches {
-            rows.push(self.take_branch(branch)?)?;
+            push_made(&mut rows, self.take_branch(branch))?;
         }
         Ok(rows)
     }

@@ -1,8 +1,8 @@
 //! Pieces of code, with how many rows are among them and how much these say.
 
-ghost use Rattle.std.specs.Prelude.{◌≡◌, ◌++◌, ◌∷◌, [], length, IfOk};
+ghost use Rattle.std.specs.Prelude.{◌≡◌, ◌+◌, ◌++◌, ◌∷◌, [], length, IfOk, IfErr, Ok};
 ghost use Rattle.code_pieces.specs.PieceViews.{pieces_of, piece_of};
-ghost use Rattle.line_pieces.specs.Limits.{rows_at, said_at, is_too_much};
+ghost use Rattle.line_pieces.specs.Limits.{rows_at, said_at, rows_in, said_in, is_too_much};
 
 use code_pieces::Piece;
 use std::alloc::{AllocError, Global};
@@ -64,6 +64,28 @@ fn said_at(piece: &Piece) -> usize
     }
 }
 
+/// How many rows are among some pieces, and how many entries these have.
+#[derive(Clone, Copy)]
+struct RowSums {
+    rows: usize,
+    said: usize,
+}
+
+/// One item more, if there are sums with it, which are the result.
+fn push_counted<T: Drop>(
+    items: &mut Vec<T>,
+    sums: Result<RowSums, AllocError>,
+    item: T,
+) -> Result<RowSums, AllocError>
+    ensures sums { IfOk result (λ s. sums ≡ Ok s) }
+    ensures more { IfOk result (λ _. items.new.items ≡ items.old.items ++ item ∷ []) }
+    ensures same { IfErr result (λ _. items.new.items ≡ items.old.items) }
+{
+    let sums = sums?;
+    items.push(item)?;
+    Ok(sums)
+}
+
 impl CountedPieces {
     /// No pieces.
     pub(crate) fn new(alloc: Global) -> CountedPieces
@@ -97,15 +119,27 @@ impl CountedPieces {
         self.pieces
     }
 
+    /// The sums with one piece more.
+    fn sums_with(&self, piece: &Piece) -> Result<RowSums, AllocError>
+        ensures rows { IfOk result (λ s. s.rows ≡ rows_in self.now + rows_at (piece_of piece.now)) }
+        ensures said { IfOk result (λ s. s.said ≡ said_in self.now + said_at (piece_of piece.now)) }
+    {
+        let rows = self.rows.checked_add(rows_at(piece));
+        let said = self.said.checked_add(said_at(piece));
+        match (rows, said) {
+            (Some(rows), Some(said)) => Ok(RowSums { rows, said }),
+            _ => Err(AllocError),
+        }
+    }
+
     /// One piece more.
     pub(crate) fn push(&mut self, piece: Piece) -> Result<(), AllocError>
         ensures { IfOk result (λ _. self.new ≡ self.old ++ piece_of piece ∷ []) }
     {
-        let rows = self.rows.checked_add(rows_at(&piece)).ok_or(AllocError)?;
-        let said = self.said.checked_add(said_at(&piece)).ok_or(AllocError)?;
-        self.pieces.push(piece)?;
-        self.rows = rows;
-        self.said = said;
+        let sums = self.sums_with(&piece);
+        let sums = push_counted(&mut self.pieces, sums, piece)?;
+        self.rows = sums.rows;
+        self.said = sums.said;
         Ok(())
     }
 

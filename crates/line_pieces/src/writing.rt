@@ -20,6 +20,7 @@ use crate::expressions::{
 };
 use crate::home::Home;
 use crate::listing::Listing;
+use crate::noting::Access;
 use crate::setting::{Setting, word_after};
 use code_pieces::operations;
 use occam_parser::{ChainOperator, Expr, Operand, Operation, ValueType};
@@ -389,7 +390,7 @@ impl Listing {
             (single (range_found (bound_of (entries_in setting.entry) (expression_of subscript.now))))
             (subscript_in setting.entry (expression_of subscript.now))) }
     {
-        self.reads(word)?;
+        self.notes.note_word(word, Access::Reads)?;
         match (value_type, single(range_of(setting.scope, subscript))) {
             (ValueType::Int, Some(number)) => self.load(word_after(word, number.unsigned_abs())),
             (ValueType::Int, None) => {

@@ -48,7 +48,7 @@ use Rattle.code_generator.proofs.PartsExceed.{exceeds_choices, exceeds_ending, e
 use Rattle.code_generator.proofs.PartsExceed.{exceeds_if, exceeds_if_end, exceeds_turns, exceeds_last_turn}
 use Rattle.code_generator.proofs.LoopsExceed.{exceeds_entering, exceeds_body, exceeds_leaving, exceeds_loop}
 use Rattle.code_generator.proofs.LoopsExceed.{exceeds_replicated, exceeds_repeated, exceeds_repeated_end}
-use Rattle.code_generator.proofs.BranchesFollowed.{goes_on, by_site, alt_follows, where_ok, writes_branch}
+use Rattle.code_generator.proofs.BranchesFollowed.{goes_on, by_site, alt_follows, where_ok, both_ok, writes_branch}
 use Rattle.code_generator.proofs.BranchesFollowed.{branches_next, branches_done, some_next, follows_repeated}
 use Rattle.code_generator.proofs.BranchesWritten.{par_next, par_done, par_turns_next, writes_component, writes_no_turns}
 use Rattle.code_generator.proofs.BranchesWritten.{writes_repeated_par}
@@ -132,10 +132,11 @@ write_instance-end_instance-requires t c =
 
 pub write_instance-returns-clause-ok : goal.write_instance-returns-clause-ok
 write_instance-returns-clause-ok t c =
-    writes_instance c.args.around.now c.args.name.now (map expression_of c.args.actuals.now) c.in_ok-call.call
+    where_ok c.end_instance.result
+    (λ _ ended. writes_instance c.args.around.now c.args.name.now (map expression_of c.args.actuals.now) c.in_ok-call.call
     (option_map meaning_of c.meaning-procedure.result) c.args.self.now c.begin_instance.new.self
     c.in_ok-body.body c.write.new.self c.end_instance.new.self c.meaning-procedure.ensures c.in_ok-call.ensures.call
-    c.in_ok-body.ensures c.in_ok-write.ensures.ok c.in_ok-end_instance.ensures
+    c.in_ok-body.ensures c.in_ok-write.ensures.ok ended) c.end_instance.ensures
 
 pub write_seq-loop-process-init : goal.write_seq-loop-process-init
 write_seq-loop-process-init t c = writes_none c.args.self.now
@@ -165,8 +166,9 @@ write_if-returns-clause-ok t c =
     let left = choices_left c.args.around.now (all_choices c.args.choices.now) s begun c.write_choices.new.self
     c.end.new.self refl (placed_at s c.begin.new.self c.in_ok-begin.ensures.ok c.in_ok-self.ensures)
     c.in_ok-write_choices.ensures.ok c.end.ensures in
-    writes_if c.args.around.now (all_choices c.args.choices.now) s c.write_choices.new.self c.write_row.new.self
-    c.end.new.self left c.in_ok-write_row.ensures.row c.in_ok-write_row.ensures.site
+    both_ok c.write_row.result
+    (λ _ row site. writes_if c.args.around.now (all_choices c.args.choices.now) s c.write_choices.new.self
+    c.write_row.new.self c.end.new.self left row site) c.write_row.ensures.row c.write_row.ensures.site
 
 pub write_taken-returns-clause-ok : goal.write_taken-returns-clause-ok
 write_taken-returns-clause-ok t c =
@@ -180,16 +182,19 @@ write_tested-returns-clause-ok t c =
     let x = c.args.choice.now in
     let s = c.args.self.now in
     let place = c.in_ok-write_test.ensures.site ∙ placed_at s s.scope refl c.in_ok-self.ensures in
-    writes_tested c.args.around.now c.args.end x s c.write_test.new.self c.write_taken.new.self c.write_row.new.self
-    c.push.new.self c.in_ok-write_test.ensures.code
+    both_ok c.write_row.result
+    (λ _ row site. writes_tested c.args.around.now c.args.end x s c.write_test.new.self c.write_taken.new.self
+    c.write_row.new.self c.push.new.self c.in_ok-write_test.ensures.code
     (taken_left c.args.around.now (choice_of x) s c.write_test.new.self c.write_taken.new.self place
     c.in_ok-write_taken.ensures.ok)
-    c.in_ok-push.ensures c.in_ok-write_row.ensures.row c.in_ok-write_row.ensures.site
+    c.in_ok-push.ensures row site) c.write_row.ensures.row c.write_row.ensures.site
 
 pub write_open-returns-clause-ok : goal.write_open-returns-clause-ok
 write_open-returns-clause-ok t c =
-    writes_open c.args.around.now c.args.end c.args.choice.now c.args.self.now c.write_test.new.self c.write_taken.new.self
-    c.in_ok-write_test.ensures.code c.in_ok-write_test.ensures.site c.in_ok-write_taken.ensures.ok
+    where_ok c.write_taken.result
+    (λ _ taken. writes_open c.args.around.now c.args.end c.args.choice.now c.args.self.now c.write_test.new.self
+    c.write_taken.new.self c.in_ok-write_test.ensures.code c.in_ok-write_test.ensures.site taken)
+    c.write_taken.ensures.ok
 
 -- ---- alternations
 
@@ -205,10 +210,11 @@ write_construct-returns-in-Alt-clause-ok t c =
 
 pub write_alt-returns : goal.write_alt-returns
 write_alt-returns t c =
-    alt_follows c.args.around.now (exits_in c.in_ok-labels.labels c.in_ok-guards.guards.sources.items)
+    where_ok c.write_row.result
+    (λ _ site. alt_follows c.args.around.now (exits_in c.in_ok-labels.labels c.in_ok-guards.guards.sources.items)
     (all_branches c.args.branches.now) c.begin.new.self c.end.new.self
     (goes_on (λ k. k) c.in_ok-guards.ensures c.in_ok-labels.ensures) c.in_ok-begin.ensures.ok
-    c.in_ok-write_branches.ensures c.end.ensures (by_site c.in_ok-write_row.ensures.site)
+    c.in_ok-write_branches.ensures c.end.ensures (by_site site)) c.write_row.ensures.site
 
 pub write_branches-loop-number-init : goal.write_branches-loop-number-init
 write_branches-loop-number-init t c = writes_none c.args.self.now
@@ -232,11 +238,12 @@ write_branch-returns t c =
     let within = c.write.new.self in
     let moved = record within { scope = c.next.new.self; listing = c.push.new.self } in
     let view : Guarded x.line (guard_of x.guard) (process_of x.process) ≡ branch_of x = search (rules, the_lemmas) in
-    subst (λ y. WritesBranch s c.write_stop_at.new.self c.args.around.now c.args.exits y) view
+    where_ok c.write_stop_at.result
+    (λ _ stop. subst (λ y. WritesBranch s c.write_stop_at.new.self c.args.around.now c.args.exits y) view
     (writes_branch c.args.around.now x.line (guard_of x.guard) (process_of x.process) c.args.exits s c.write_row.new.self
     c.write_guard.new.self within moved c.write_stop_at.new.self c.in_ok-stops.stops c.in_ok-write_row.ensures.row
     c.in_ok-write_row.ensures.site c.in_ok-stops.ensures c.in_ok-write.ensures.ok c.in_ok-push.ensures c.next.ensures
-    refl refl c.in_ok-write_stop_at.ensures)
+    refl refl stop)) c.write_stop_at.ensures
 
 pub write_branch_turns-loop-turn-init : goal.write_branch_turns-loop-turn-init
 write_branch_turns-loop-turn-init t c = writes_none c.args.self.now
@@ -269,13 +276,14 @@ write_repeated_alt-returns t c =
     ∙ (λ i. repeats_of (c.is_before-counted.ensures i) (known_of s.scope).entries false r) in
     let chosen = c.choose.new.self in
     let long : c.len-names.result ≡ length chosen.frame.homes.items = omega arith in
-    follows_repeated c.args.around.now (exits_in c.in_ok-labels.labels c.in_ok-guards.guards.sources.items) c.args.line
-    c.len-names.result r (branch_of c.args.branch.now) turns
+    where_ok c.write_row.result
+    (λ _ site. follows_repeated c.args.around.now (exits_in c.in_ok-labels.labels c.in_ok-guards.guards.sources.items)
+    c.args.line c.len-names.result r (branch_of c.args.branch.now) turns
     c.leave.new.self c.end.new.self refl counted c.times.ensures
     (goes_on (λ k. k) c.in_ok-guards.ensures c.in_ok-labels.ensures) c.in_ok-begin.ensures.ok
     c.in_ok-add_home.ensures c.in_ok-write_branch_turns.ensures long c.leave.ensures.homes c.leave.ensures.top
-    c.leave.ensures.outer c.end.ensures (ap (λ (y : Site). y.known) c.in_ok-write_row.ensures.site)
-    (ap (λ (y : Site). y.frame) c.in_ok-write_row.ensures.site)
+    c.leave.ensures.outer c.end.ensures (ap (λ (y : Site). y.known) site) (ap (λ (y : Site). y.frame) site))
+    c.write_row.ensures.site
 
 pub write_replicated-returns-in-Alt-clause-ok : goal.write_replicated-returns-in-Alt-clause-ok
 write_replicated-returns-in-Alt-clause-ok t c =
@@ -298,9 +306,10 @@ write_repeated_if-returns-clause-ok t c =
     let left = turns_left (choice_of c.args.choice.now) c.len-names.result c.leave.new.self c.end.new.self begins
     c.times.ensures c.in_ok-write_turns.ensures.ok (omega arith) c.leave.ensures.homes c.leave.ensures.top
     c.leave.ensures.outer c.end.ensures in
-    writes_repeated_if c.args.around.now c.args.line (replicator_of c.args.replicator.now) (choice_of c.args.choice.now)
-    c.args.self.now c.write_turns.new.self c.write_row.new.self c.leave.new.self c.end.new.self left
-    c.in_ok-write_row.ensures.row c.in_ok-write_row.ensures.site
+    both_ok c.write_row.result
+    (λ _ row site. writes_repeated_if c.args.around.now c.args.line (replicator_of c.args.replicator.now)
+    (choice_of c.args.choice.now) c.args.self.now c.write_turns.new.self c.write_row.new.self c.leave.new.self
+    c.end.new.self left row site) c.write_row.ensures.row c.write_row.ensures.site
 
 pub write_loop-returns-clause-ok : goal.write_loop-returns-clause-ok
 write_loop-returns-clause-ok t c =
@@ -309,9 +318,10 @@ write_loop-returns-clause-ok t c =
     let turns = is_turning c.args.around.now c.args.line (replicator_of c.args.replicator.now) c.args.self.now l refl
     c.index_in.ensures c.repeats_of-repeats.ensures c.is_before-counted.ensures c.value_or_zero.ensures
     c.value_or_zero-count.ensures (λ none. c.if-count-eq0.false (ap (of_z w32) none)) in
-    writes_loop (process_of c.args.process.now) c.args.changed.now turns
+    where_ok c.write_turning.result
+    (λ _ turning. writes_loop (process_of c.args.process.now) c.args.changed.now turns
     (subst (λ (x : Turning). WritesTurning c.args.self.now c.write_turning.new.self c.args.around.now x c.args.changed.now
-    (process_of c.args.process.now)) (as_passed l (search rules) (search rules)) c.in_ok-write_turning.ensures.ok)
+    (process_of c.args.process.now)) (as_passed l (search rules) (search rules)) turning)) c.write_turning.ensures.ok
 
 pub write_turning-returns-clause-ok : goal.write_turning-returns-clause-ok
 write_turning-returns-clause-ok t c =
@@ -320,9 +330,10 @@ write_turning-returns-clause-ok t c =
     let p = process_of c.args.process.now in
     let enters = c.in_ok-enter_loop.ensures.ok in
     let long : c.len-names.result ≡ length s.frame.homes.items = omega arith in
-    writes_turning c.args.around.now p l c.args.changed.now c.len-names.result s.frame.top s.label enters
+    where_ok c.leave_loop.result
+    (λ _ leaves. writes_turning c.args.around.now p l c.args.changed.now c.len-names.result s.frame.top s.label enters
     (body_left c.args.around.now p l c.args.changed.now c.len-names.result s.frame.top s.label enters
-    c.in_ok-write_one.ensures.ok long refl refl) c.in_ok-leave_loop.ensures.ok
+    c.in_ok-write_one.ensures.ok long refl refl) leaves) c.leave_loop.ensures.ok
 
 pub write_replicated-returns-in_ok-write_loop-in-Seq-clause-ok :
     goal.write_replicated-returns-in_ok-write_loop-in-Seq-clause-ok
@@ -363,8 +374,10 @@ pub write_par-returns : goal.write_par-returns
 write_par-returns t c =
     let done : length c.args.processes.now ≤ c.loop-process.process-index = omega arith in
     let begins = c.in_ok-begin_par.ensures.ok ∙ ap (λ s. begin_par (known_of s)) c.in_ok-fork.ensures.scope in
-    par_done c.args.around.now plain_component c.args.processes.now c.loop-process.process-index c.end.new.self done begins
-    (ap frame_seen c.in_ok-fork.ensures.frame) c.loop-process.invariant c.end.ensures c.in_ok-write_fork.ensures
+    where_ok c.write_fork.result
+    (λ _ kept. par_done c.args.around.now plain_component c.args.processes.now c.loop-process.process-index c.end.new.self
+    done begins (ap frame_seen c.in_ok-fork.ensures.frame) c.loop-process.invariant c.end.ensures kept)
+    c.write_fork.ensures
 
 pub write_component-returns : goal.write_component-returns
 write_component-returns t c =
@@ -401,10 +414,11 @@ write_repeated_par-returns t c =
     let begins = c.in_ok-begin_par.ensures.ok ∙ ap (λ s. begin_par (known_of s)) c.in_ok-fork.ensures.scope in
     let named = c.in_ok-add_home.ensures ∙ ap (λ f. with_home Nowhere (frame_seen f)) c.in_ok-fork.ensures.frame in
     let long : c.len-names.result ≡ length s.frame.homes.items = omega arith in
-    writes_repeated_par c.args.around.now c.args.line c.len-names.result r (process_of c.args.process.now)
+    where_ok c.write_turns_fork.result
+    (λ _ kept. writes_repeated_par c.args.around.now c.args.line c.len-names.result r (process_of c.args.process.now)
     (seen_repeats c.repeats_of-repeats.result) c.leave.new.self c.end.new.self counted (search rules) begins named
     c.in_ok-write_components.ensures long c.leave.ensures.homes c.leave.ensures.top c.leave.ensures.outer c.end.ensures
-    c.in_ok-write_turns_fork.ensures
+    kept) c.write_turns_fork.ensures
 
 pub write_replicated-returns-in-Par-clause-ok : goal.write_replicated-returns-in-Par-clause-ok
 write_replicated-returns-in-Par-clause-ok t c =
@@ -498,17 +512,15 @@ write_if-returns-in_err-write_choices-clause-limit t c = λ e.
     (placed_at s c.begin.new.self c.in_ok-begin.ensures.ok c.in_ok-self.ensures)
     (c.in_err-write_choices.ensures.limit (ap Err fault))
 
-pub write_if-returns-in_err-write_row-clause-limit : goal.write_if-returns-in_err-write_row-clause-limit
-write_if-returns-in_err-write_row-clause-limit t c = λ e.
+pub write_if-returns-clause-limit : goal.write_if-returns-clause-limit
+write_if-returns-clause-limit t c = λ e.
     let s = c.args.self.now in
     let begun = record s { label = c.in_ok-self.field-0; scope = c.begin.new.self } in
     let left = choices_left c.args.around.now (all_choices c.args.choices.now) s begun c.write_choices.new.self
     c.end.new.self refl (placed_at s c.begin.new.self c.in_ok-begin.ensures.ok c.in_ok-self.ensures)
     c.in_ok-write_choices.ensures.ok c.end.ensures in
-    let fault = handed_on c.from_residual-in_err-write_row.result c.in_err-write_row.field-0.0 Limit
-    c.from_residual-in_err-write_row.ensures.1 e in
     exceeds_if_end c.args.around.now.limits c.args.around.now (all_choices c.args.choices.now) s c.write_choices.new.self
-    c.end.new.self left (c.in_err-write_row.ensures.limit (ap Err fault))
+    c.end.new.self left (c.write_row.ensures.limit e)
 
 pub write_taken-returns-in_err-write-clause-limit : goal.write_taken-returns-in_err-write-clause-limit
 write_taken-returns-in_err-write-clause-limit t c = λ e.
@@ -528,25 +540,21 @@ write_tested-returns-in_err-write_taken-clause-limit t c = λ e.
     (c.in_ok-write_test.ensures.site ∙ placed_at s s.scope refl c.in_ok-self.ensures)
     (c.in_err-write_taken.ensures.limit (ap Err fault))
 
-pub write_tested-returns-in_err-write_row-clause-limit : goal.write_tested-returns-in_err-write_row-clause-limit
-write_tested-returns-in_err-write_row-clause-limit t c = λ e.
+pub write_tested-returns-clause-limit : goal.write_tested-returns-clause-limit
+write_tested-returns-clause-limit t c = λ e.
     let x = c.args.choice.now in
     let s = c.args.self.now in
-    let fault = handed_on c.from_residual-in_err-write_row.result c.in_err-write_row.field-0.0 Limit
-    c.from_residual-in_err-write_row.ensures.1 e in
     exceeds_other c.args.around.now.limits c.args.around.now c.args.end x s c.write_test.new.self c.write_taken.new.self
     c.push.new.self c.in_ok-write_test.ensures.code
     (taken_left c.args.around.now (choice_of x) s c.write_test.new.self c.write_taken.new.self
     (c.in_ok-write_test.ensures.site ∙ placed_at s s.scope refl c.in_ok-self.ensures) c.in_ok-write_taken.ensures.ok)
-    c.in_ok-push.ensures (c.in_err-write_row.ensures.limit (ap Err fault))
+    c.in_ok-push.ensures (c.write_row.ensures.limit e)
 
-pub write_open-returns-in_err-write_taken-clause-limit : goal.write_open-returns-in_err-write_taken-clause-limit
-write_open-returns-in_err-write_taken-clause-limit t c = λ e.
-    let fault = handed_on c.from_residual-in_err-write_taken.result c.in_err-write_taken.field-0.0 Limit
-    c.from_residual-in_err-write_taken.ensures.1 e in
+pub write_open-returns-clause-limit : goal.write_open-returns-clause-limit
+write_open-returns-clause-limit t c = λ e.
     exceeds_open c.args.around.now.limits (surroundings_of c.args.around.now) c.args.end c.args.choice.now c.args.self.now
     c.write_test.new.self c.in_ok-write_test.ensures.code c.in_ok-write_test.ensures.site
-    (c.in_err-write_taken.ensures.limit (ap Err fault))
+    (c.write_taken.ensures.limit e)
 
 pub write_repeated_if-returns-in_err-write_turns-clause-limit :
     goal.write_repeated_if-returns-in_err-write_turns-clause-limit
@@ -559,34 +567,30 @@ write_repeated_if-returns-in_err-write_turns-clause-limit t c = λ e.
     c.repeats_of-repeats.ensures c.is_before-counted.ensures)
     c.times.ensures (c.in_err-write_turns.ensures.limit (ap Err fault))
 
-pub write_repeated_if-returns-in_err-write_row-clause-limit :
-    goal.write_repeated_if-returns-in_err-write_row-clause-limit
-write_repeated_if-returns-in_err-write_row-clause-limit t c = λ e.
+pub write_repeated_if-returns-clause-limit : goal.write_repeated_if-returns-clause-limit
+write_repeated_if-returns-clause-limit t c = λ e.
     let begins = turns_begin c.args.around.now c.args.line (replicator_of c.args.replicator.now) c.args.self.now
     c.begin.new.self c.add_home.new.self c.in_ok-add_home.ensures c.in_ok-begin.ensures.ok c.in_ok-self.ensures
     c.repeats_of-repeats.ensures c.is_before-counted.ensures in
-    let fault = handed_on c.from_residual-in_err-write_row.result c.in_err-write_row.field-0.0 Limit
-    c.from_residual-in_err-write_row.ensures.1 e in
     let left = turns_left (choice_of c.args.choice.now) c.len-names.result c.leave.new.self c.end.new.self begins
     c.times.ensures c.in_ok-write_turns.ensures.ok (omega arith) c.leave.ensures.homes c.leave.ensures.top
     c.leave.ensures.outer c.end.ensures in
     exceeds_repeated_end c.args.around.now.limits c.args.around.now c.args.line (replicator_of c.args.replicator.now)
     (choice_of c.args.choice.now) c.args.self.now c.write_turns.new.self c.leave.new.self c.end.new.self left
-    (c.in_err-write_row.ensures.limit (ap Err fault))
+    (c.write_row.ensures.limit e)
 
-pub write_loop-returns-in_err-write_turning-clause-limit : goal.write_loop-returns-in_err-write_turning-clause-limit
-write_loop-returns-in_err-write_turning-clause-limit t c = λ e.
+pub write_loop-returns-clause-limit : goal.write_loop-returns-clause-limit
+write_loop-returns-clause-limit t c = λ e.
     let s = c.args.self.now in
     let l = turning_with c.args.replicator.now.name c.index_in.result c.value_or_zero.result
     c.value_or_zero-count.result in
-    let fault = handed_on c.from_residual.result c.in_err-write_turning.field-0.0 Limit c.from_residual.ensures.1 e in
     let turns = is_turning c.args.around.now c.args.line (replicator_of c.args.replicator.now) c.args.self.now l refl
     c.index_in.ensures c.repeats_of-repeats.ensures c.is_before-counted.ensures c.value_or_zero.ensures
     c.value_or_zero-count.ensures (λ none. c.if-count-eq0.false (ap (of_z w32) none)) in
     exceeds_loop c.args.around.now.limits (process_of c.args.process.now) c.args.changed.now turns
     (subst (λ (x : Turning). Exceeds c.args.around.now.limits s.listing (turning_code (surroundings_of c.args.around.now) x
     c.args.changed.now (process_of c.args.process.now) (site_of s))) (as_passed l (search rules) (search rules))
-    (c.in_err-write_turning.ensures.limit (ap Err fault)))
+    (c.write_turning.ensures.limit e))
 
 pub write_turning-returns-in_err-enter_loop-clause-limit : goal.write_turning-returns-in_err-enter_loop-clause-limit
 write_turning-returns-in_err-enter_loop-clause-limit t c = λ e.
@@ -601,19 +605,17 @@ write_turning-returns-in_err-write_one-clause-limit t c = λ e.
     exceeds_body c.args.around.now.limits c.args.around.now (process_of c.args.process.now) c.args.turning c.args.changed.now
     c.in_ok-enter_loop.ensures.ok (c.in_err-write_one.ensures.limit (ap Err fault))
 
-pub write_turning-returns-in_err-leave_loop-clause-limit : goal.write_turning-returns-in_err-leave_loop-clause-limit
-write_turning-returns-in_err-leave_loop-clause-limit t c = λ e.
+pub write_turning-returns-clause-limit : goal.write_turning-returns-clause-limit
+write_turning-returns-clause-limit t c = λ e.
     let s = c.args.self.now in
     let l = c.args.turning in
     let p = process_of c.args.process.now in
-    let fault = handed_on c.from_residual-in_err-leave_loop.result c.in_err-leave_loop.field-0.0 Limit
-    c.from_residual-in_err-leave_loop.ensures.1 e in
     let enters = c.in_ok-enter_loop.ensures.ok in
     let long : c.len-names.result ≡ length s.frame.homes.items = omega arith in
     exceeds_leaving c.args.around.now.limits c.args.around.now p l c.args.changed.now c.len-names.result s.frame.top s.label
     enters
     (body_left c.args.around.now p l c.args.changed.now c.len-names.result s.frame.top s.label enters
-    c.in_ok-write_one.ensures.ok long refl refl) (c.in_err-leave_loop.ensures.limit (ap Err fault))
+    c.in_ok-write_one.ensures.ok long refl refl) (c.leave_loop.ensures.limit e)
 
 pub write_replicated-returns-in_err-write_loop-in-Seq-clause-limit :
     goal.write_replicated-returns-in_err-write_loop-in-Seq-clause-limit
@@ -651,10 +653,11 @@ pub write_choices-returns-clause-ok : goal.write_choices-returns-clause-ok
 write_choices-returns-clause-ok t c =
     let ended = c.of-ended.result in
     let done : length ended.tested.now ≤ c.loop-choice.choice-index = omega arith in
-    choices_written c.args.around.now c.args.end (all_choices c.args.choices.now) ended.tested.now ended.ending
+    where_ok c.write_ending.result
+    (λ _ ending. choices_written c.args.around.now c.args.end (all_choices c.args.choices.now) ended.tested.now ended.ending
     c.of-ended.ensures.ended
     (tested_done c.args.around.now c.args.end choice_of ended.tested.now c.loop-choice.choice-index done
-    c.loop-choice.invariant) c.in_ok-write_ending.ensures.ok
+    c.loop-choice.invariant) ending) c.write_ending.ensures.ok
 
 pub write_choices-returns-in_err-write_tested-clause-limit :
     goal.write_choices-returns-in_err-write_tested-clause-limit
@@ -665,17 +668,14 @@ write_choices-returns-in_err-write_tested-clause-limit t c = λ e.
     ended.ending c.loop-choice.choice-index c.choice-item.result c.of-ended.ensures.ended (omega arith) c.choice-item.is
     c.loop-choice.invariant (c.in_err-write_tested.ensures.limit (ap Err fault))
 
-pub write_choices-returns-in_err-write_ending-clause-limit :
-    goal.write_choices-returns-in_err-write_ending-clause-limit
-write_choices-returns-in_err-write_ending-clause-limit t c = λ e.
+pub write_choices-returns-clause-limit : goal.write_choices-returns-clause-limit
+write_choices-returns-clause-limit t c = λ e.
     let ended = c.of-ended.result in
     let done : length ended.tested.now ≤ c.loop-choice.choice-index = omega arith in
-    let fault = handed_on c.from_residual-in_err-write_ending.result c.in_err-write_ending.field-0.0 Limit
-    c.from_residual-in_err-write_ending.ensures.1 e in
     exceeds_ending c.args.around.now.limits c.args.around.now c.args.end (all_choices c.args.choices.now) ended.tested.now
     ended.ending c.of-ended.ensures.ended
     (tested_done c.args.around.now c.args.end choice_of ended.tested.now c.loop-choice.choice-index done
-    c.loop-choice.invariant) (c.in_err-write_ending.ensures.limit (ap Err fault))
+    c.loop-choice.invariant) (c.write_ending.ensures.limit e)
 
 pub write_ending-returns-in_ok-write_open-in-Opens-clause-ok :
     goal.write_ending-returns-in_ok-write_open-in-Opens-clause-ok
@@ -728,11 +728,12 @@ pub write_turns-returns-clause-ok : goal.write_turns-returns-clause-ok
 write_turns-returns-clause-ok t c =
     let named = c.in_ok-add_name-2.ensures in
     let done : c.loop-turn.turn ≡ c.turns_tested-tested.result = omega arith in
-    turns_taken c.args.around.now c.args.end c.args.name.now (seen_repeats c.args.repeats) c.args.choice.now c.args.count
-    c.turns_tested-tested.result c.loop-turn.turn (meaning_of c.index_in-2.result) c.add_name-2.new.scope
+    where_ok c.write_taken.result
+    (λ _ taken. turns_taken c.args.around.now c.args.end c.args.name.now (seen_repeats c.args.repeats) c.args.choice.now
+    c.args.count c.turns_tested-tested.result c.loop-turn.turn (meaning_of c.index_in-2.result) c.add_name-2.new.scope
     c.turns_tested-tested.ensures c.if-tested-count.false done c.index_in-2.ensures
-    (λ i. record { entries = named.ok i; blocks = named.extends.blocks i }) c.loop-turn.invariant
-    c.in_ok-write_taken.ensures.ok
+    (λ i. record { entries = named.ok i; blocks = named.extends.blocks i }) c.loop-turn.invariant taken)
+    c.write_taken.ensures.ok
 
 pub write_turns-returns-in_err-write_tested-clause-limit : goal.write_turns-returns-in_err-write_tested-clause-limit
 write_turns-returns-in_err-write_tested-clause-limit t c = λ e.
@@ -745,17 +746,15 @@ write_turns-returns-in_err-write_tested-clause-limit t c = λ e.
     (λ i. record { entries = named.ok i; blocks = named.extends.blocks i }) c.loop-turn.invariant
     (c.in_err-write_tested.ensures.limit (ap Err fault))
 
-pub write_turns-returns-in_err-write_taken-clause-limit : goal.write_turns-returns-in_err-write_taken-clause-limit
-write_turns-returns-in_err-write_taken-clause-limit t c = λ e.
+pub write_turns-returns-clause-limit : goal.write_turns-returns-clause-limit
+write_turns-returns-clause-limit t c = λ e.
     let named = c.in_ok-add_name-2.ensures in
     let done : c.loop-turn.turn ≡ c.turns_tested-tested.result = omega arith in
-    let fault = handed_on c.from_residual-in_err-write_taken.result c.in_err-write_taken.field-0.0 Limit
-    c.from_residual-in_err-write_taken.ensures.1 e in
     exceeds_last_turn c.args.around.now.limits c.args.around.now c.args.end c.args.name.now (seen_repeats c.args.repeats)
     c.args.choice.now c.args.count c.turns_tested-tested.result c.loop-turn.turn (meaning_of c.index_in-2.result)
     c.add_name-2.new.scope c.turns_tested-tested.ensures c.if-tested-count.false done c.index_in-2.ensures
     (λ i. record { entries = named.ok i; blocks = named.extends.blocks i }) c.loop-turn.invariant
-    (c.in_err-write_taken.ensures.limit (ap Err fault))
+    (c.write_taken.ensures.limit e)
 
 -- ---- what is invalid
 
@@ -853,13 +852,10 @@ write_choices-returns-in_err-write_tested-clause-invalid t c = λ e sequential.
     (tested_sequential c.args.choices.now ended.tested.now (choices_in ended.ending) c.of-ended.ensures.whole
     sequential))
 
-pub write_choices-returns-in_err-write_ending-clause-invalid :
-    goal.write_choices-returns-in_err-write_ending-clause-invalid
-write_choices-returns-in_err-write_ending-clause-invalid t c = λ e sequential.
+pub write_choices-returns-clause-invalid : goal.write_choices-returns-clause-invalid
+write_choices-returns-clause-invalid t c = λ e sequential.
     let ended = c.of-ended.result in
-    let fault = handed_on c.from_residual-in_err-write_ending.result c.in_err-write_ending.field-0.0 Invalid
-    c.from_residual-in_err-write_ending.ensures.1 e in
-    c.in_err-write_ending.ensures.invalid (ap Err fault)
+    c.write_ending.ensures.invalid e
     (ending_sequential c.args.choices.now ended.tested.now (choices_in ended.ending) c.of-ended.ensures.whole
     sequential)
 
