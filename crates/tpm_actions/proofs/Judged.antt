@@ -82,15 +82,15 @@ module _ {F R W : Type 0} (storage : Storage F R W) where
       → IsHindered storage bytes (debugs path inputs outputs limit trace) before after failure
   program_withheld bytes path inputs outputs limit trace before after (failures.Malformed fault) why = why
   program_withheld bytes path inputs outputs limit trace before after (failures.Uncertified refusal) why =
-      absurd why
+      absurd why.holds
   program_withheld bytes path inputs outputs limit trace before after (failures.Explained refusal text) why =
-      absurd why
+      absurd why.holds
   program_withheld bytes path inputs outputs limit trace before after (failures.Faulted fault text) why = why
   program_withheld bytes path inputs outputs limit trace before after (failures.Uncompiled fault) why = why
   program_withheld bytes path inputs outputs limit trace before after (failures.NotUpgraded fault) why =
-      absurd why
+      absurd why.holds
   program_withheld bytes path inputs outputs limit trace before after (failures.Stopped stop) why = inl why
-  program_withheld bytes path inputs outputs limit trace before after failures.Unwritten why = absurd why
+  program_withheld bytes path inputs outputs limit trace before after failures.Unwritten why = absurd why.holds
 
   -- the answer that a run of a module or a source gives on the machine that checks each rule
   pub program_judged : {S : Type 0} (text_of : S → Text) (bytes : List ℕ) (path : Text)
