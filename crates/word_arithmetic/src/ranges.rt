@@ -99,7 +99,7 @@ impl Range {
         ensures rule { result ≡ is_within (ends_of self.now) bytes }
         ensures members { IsTrue result ↔ IsWithin (ends_of self.now) bytes }
     {
-        0 <= self.lo && self.hi <= 255
+        self.fits_within(Range { lo: 0, hi: 255 })
     }
 
     /// The least range that has all words of both.

@@ -10,6 +10,7 @@ ghost use Rattle.word_arithmetic.specs.Range.{remainder_range};
 
 use crate::ranges::Range;
 use crate::ranges::wide::fitting;
+use sum_ends::{Ends, sum_ends};
 
 impl Range {
     /// The range of the sums.
@@ -18,10 +19,19 @@ impl Range {
         ensures exact { BoundsExactly checked_sum
             (ends_of self) (ends_of other) (option_map ends_of result) }
     {
-        fitting(
-            i64::from(self.lo) + i64::from(other.lo),
-            i64::from(self.hi) + i64::from(other.hi),
-        )
+        let sums = sum_ends(self.ends(), other.ends());
+        fitting(sums.lo, sums.hi)
+    }
+
+    /// The ends of the range.
+    fn ends(self) -> Ends<i32>
+        ensures lo { result.lo ≡ self.lo }
+        ensures hi { result.hi ≡ self.hi }
+    {
+        Ends {
+            lo: self.lo,
+            hi: self.hi,
+        }
     }
 
     /// The range of the sums with one word.
