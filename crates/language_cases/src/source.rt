@@ -25,6 +25,24 @@ fn number(text: &str) -> Option<(u32, &str)> {
     Some((digits.parse::<u32>().ok()?, rest))
 }
 
+/// A text for each number from the first up to the second, which is left out.
+#[derive(Drop)]
+struct Several {
+    from: u32,
+    to: u32,
+    text: Vec<u8>,
+}
+
+impl Several {
+    /// What `FROM TO "TEXT"` says.
+    fn read(alloc: Global, said: &str) -> Option<Self> {
+        let (from, rest) = number(said)?;
+        let (to, quoted) = number(rest)?;
+        let text = text_of(alloc, quoted, &[])?;
+        Some(Several { from, to, text })
+    }
+}
+
 /// A text in quotes, or else the lines of a block without their indentation.
 fn text_of(alloc: Global, quoted: &str, block: &[&str]) -> Option<Vec<u8>> {
     let mut text = Vec::new(alloc);
@@ -100,15 +118,12 @@ impl Source {
         self.append(times, &text)
     }
 
-    /// Appends a text at each level of indentation from the first number up to the second, which is left out:
-    /// `FROM TO "TEXT"`.
+    /// Appends a text at each level of indentation.
     fn descend(&mut self, said: &str) -> Option<()> {
-        let (from, rest) = number(said)?;
-        let (to, quoted) = number(rest)?;
-        let text = text_of(self.alloc, quoted, &[])?;
-        for level in from..to {
+        let said = Several::read(self.alloc, said)?;
+        for level in said.from..said.to {
             self.append(level, b"  ")?;
-            self.append(1, &text)?;
+            self.append(1, &said.text)?;
         }
         Some(())
     }
@@ -126,13 +141,11 @@ impl Source {
         Some(())
     }
 
-    /// Appends a text for each number from the first up to the second, which is left out: `FROM TO "TEXT"`.
+    /// Appends a text for each number.
     fn count(&mut self, said: &str) -> Option<()> {
-        let (from, rest) = number(said)?;
-        let (to, quoted) = number(rest)?;
-        let text = text_of(self.alloc, quoted, &[])?;
-        for number in from..to {
-            self.append_numbered(&text, number)?;
+        let said = Several::read(self.alloc, said)?;
+        for number in said.from..said.to {
+            self.append_numbered(&said.text, number)?;
         }
         Some(())
     }
