@@ -7,3 +7,4 @@ pub mod LinesAbove
 pub mod Levels
 pub mod Steps
 pub mod HintsFound
+pub mod Appended

@@ -84,7 +84,6 @@ past_step step.Expression = past_whole
 past_step step.Brackets = past_brackets
 past_step (step.Value is_table) = past_value is_table
 past_step (step.List p) = past_list p
-past_step (step.Parentheses p) = past_parentheses p
 past_step step.End = past_end
 
 -- steps, one after the other, from where a line was found to go on

@@ -1,10 +1,10 @@
 //! How far a line goes on as an expression.
 
-ghost use Rattle.std.specs.Prelude.{◌≡◌, ◌<◌, ◌≤◌, length, option_map, IfOk, IfSome};
+ghost use Rattle.std.specs.Prelude.{◌≡◌, option_map};
 ghost use Rattle.occam_parser.specs.Terminals.{terminals_of};
 ghost use Rattle.reason_texts.specs.Stuck.{seen};
 ghost use Rattle.reason_texts.specs.Expressions.{joint_of, joint_at, prefix_at, past_expression, past_operand};
-ghost use Rattle.reason_texts.specs.Expressions.{one_operator, past_chain, past_within, past_inner};
+ghost use Rattle.reason_texts.specs.Expressions.{one_operator, past_chain, past_marked, past_within, past_inner};
 
 use crate::stuck::{Lack, Past, Wanted, behind, first, lacking, past_mark};
 use occam_layout::{Mark, Token, TokenKind};
@@ -51,8 +51,7 @@ fn joint_of(mark: Mark) -> Option<Joint>
 /// The operator between operands that comes first, and the tokens after it.
 #[tactic(auto, unfolding(crate::specs::Expressions::joint_at))]
 fn joint_at<'t, 'a>(tokens: &'t [Token<'a>]) -> Option<(Joint, &'t [Token<'a>])>
-    ensures found { option_map (λ x. (x.0, terminals_of x.1.now)) result ≡ joint_at (terminals_of tokens.now) }
-    ensures within { IfSome result (λ x. length x.1.now ≤ length tokens.now) }
+    ensures { option_map (λ x. (x.0, terminals_of x.1.now)) result ≡ joint_at (terminals_of tokens.now) }
 {
     match first(tokens) {
         Some((TokenKind::Mark(mark), rest)) => Some((joint_of(mark)?, rest)),
@@ -63,8 +62,7 @@ fn joint_at<'t, 'a>(tokens: &'t [Token<'a>]) -> Option<(Joint, &'t [Token<'a>])>
 /// The tokens after an operator that may be before an operand, where they begin with one.
 #[tactic(auto, unfolding(crate::specs::Expressions::prefix_at))]
 fn prefix_at<'t, 'a>(tokens: &'t [Token<'a>]) -> Option<&'t [Token<'a>]>
-    ensures found { option_map (λ rest. terminals_of rest.now) result ≡ prefix_at (terminals_of tokens.now) }
-    ensures within { IfSome result (λ rest. length rest.now ≤ length tokens.now) }
+    ensures { option_map (λ rest. terminals_of rest.now) result ≡ prefix_at (terminals_of tokens.now) }
 {
     match first(tokens) {
         Some((TokenKind::Mark(Mark::BitNot | Mark::Not | Mark::Subtract), rest)) => Some(rest),
@@ -76,8 +74,7 @@ fn prefix_at<'t, 'a>(tokens: &'t [Token<'a>]) -> Option<&'t [Token<'a>]>
 #[cycle(expression)]
 #[tactic(auto, unfolding(crate::specs::Expressions::past_expression, crate::specs::Expressions::expression_with))]
 pub(crate) fn past_expression<'t, 'a>(levels: u32, tokens: &'t [Token<'a>]) -> Past<'t, 'a>
-    ensures found { seen result ≡ past_expression levels (terminals_of tokens.now) }
-    ensures within { IfOk result (λ rest. length rest.now ≤ length tokens.now) }
+    ensures { seen result ≡ past_expression levels (terminals_of tokens.now) }
 {
     let rest = one_operator(levels, tokens)?;
     if joint_at(rest).is_some() {
@@ -90,8 +87,7 @@ pub(crate) fn past_expression<'t, 'a>(levels: u32, tokens: &'t [Token<'a>]) -> P
 #[cycle(expression)]
 #[tactic(auto, unfolding(crate::specs::Expressions::one_operator, crate::specs::Expressions::after_first))]
 fn one_operator<'t, 'a>(levels: u32, tokens: &'t [Token<'a>]) -> Past<'t, 'a>
-    ensures found { seen result ≡ one_operator (past_operand levels) (terminals_of tokens.now) }
-    ensures within { IfOk result (λ rest. length rest.now ≤ length tokens.now) }
+    ensures { seen result ≡ one_operator (past_operand levels) (terminals_of tokens.now) }
 {
     if let Some(rest) = prefix_at(tokens) {
         return past_operand(levels, rest);
@@ -109,8 +105,7 @@ fn one_operator<'t, 'a>(levels: u32, tokens: &'t [Token<'a>]) -> Past<'t, 'a>
 #[cycle(expression)]
 #[tactic(auto, using(crate::proofs::Turns::more_none, crate::proofs::Turns::more_ends, crate::proofs::Turns::more_fails, crate::proofs::Turns::more_step), unfolding(crate::specs::Expressions::past_chain))]
 fn past_chain<'t, 'a>(levels: u32, mark: Mark, tokens: &'t [Token<'a>]) -> Past<'t, 'a>
-    ensures found { seen result ≡ past_chain (past_operand levels) mark (terminals_of tokens.now) }
-    ensures within { IfOk result (λ rest. length rest.now ≤ length tokens.now) }
+    ensures { seen result ≡ past_chain (past_operand levels) mark (terminals_of tokens.now) }
 {
     let mut rest = past_operand(levels, tokens)?;
     let mut turns = rest.len();
@@ -126,10 +121,9 @@ fn past_chain<'t, 'a>(levels: u32, mark: Mark, tokens: &'t [Token<'a>]) -> Past<
 
 /// An operand has to come: of an operator, or alone.
 #[cycle(expression)]
-#[tactic(auto, unfolding(crate::specs::Expressions::past_operand, crate::specs::Expressions::operand_with, crate::specs::Expressions::past_marked))]
+#[tactic(auto, unfolding(crate::specs::Expressions::past_operand, crate::specs::Expressions::operand_with))]
 fn past_operand<'t, 'a>(levels: u32, tokens: &'t [Token<'a>]) -> Past<'t, 'a>
-    ensures found { seen result ≡ past_operand levels (terminals_of tokens.now) }
-    ensures within { IfOk result (λ rest. length rest.now ≤ length tokens.now) }
+    ensures { seen result ≡ past_operand levels (terminals_of tokens.now) }
 {
     let Some((token, rest)) = first(tokens) else {
         return lacking(Lack::Token(Wanted::Operand), tokens);
@@ -140,13 +134,29 @@ fn past_operand<'t, 'a>(levels: u32, tokens: &'t [Token<'a>]) -> Past<'t, 'a>
             Some(after) => past_inner(levels, Mark::CloseBracket, after),
             None => Ok(rest),
         },
-        TokenKind::Mark(Mark::True | Mark::False) => Ok(rest),
-        TokenKind::Mark(Mark::MostPos | Mark::MostNeg) => past_mark(Mark::Int, rest),
-        TokenKind::Mark(Mark::Int | Mark::Byte) => past_within(levels, rest),
-        TokenKind::Mark(Mark::OpenParenthesis) => past_inner(levels, Mark::CloseParenthesis, rest),
-        TokenKind::Mark(Mark::Subtract | Mark::BitNot | Mark::Not) => {
-            lacking(Lack::Mixture, tokens)
-        }
+        TokenKind::Mark(mark) => past_marked(levels, mark, tokens, rest),
+        TokenKind::Text(_) => lacking(Lack::Token(Wanted::Operand), tokens),
+    }
+}
+
+/// An operand has to come of which this mark is the first token, and these are the tokens after it.
+#[cycle(expression)]
+#[tactic(auto, unfolding(crate::specs::Expressions::past_marked))]
+fn past_marked<'t, 'a>(
+    levels: u32,
+    mark: Mark,
+    tokens: &'t [Token<'a>],
+    rest: &'t [Token<'a>],
+) -> Past<'t, 'a>
+    ensures { seen result ≡ past_marked (past_inner levels) (past_within levels) mark (terminals_of tokens.now)
+        (terminals_of rest.now) }
+{
+    match mark {
+        Mark::True | Mark::False => Ok(rest),
+        Mark::MostPos | Mark::MostNeg => past_mark(Mark::Int, rest),
+        Mark::Int | Mark::Byte => past_within(levels, rest),
+        Mark::OpenParenthesis => past_inner(levels, Mark::CloseParenthesis, rest),
+        Mark::Subtract | Mark::BitNot | Mark::Not => lacking(Lack::Mixture, tokens),
         _ => lacking(Lack::Token(Wanted::Operand), tokens),
     }
 }
@@ -155,8 +165,7 @@ fn past_operand<'t, 'a>(levels: u32, tokens: &'t [Token<'a>]) -> Past<'t, 'a>
 #[cycle(expression)]
 #[tactic(auto, using(crate::proofs::Levels::within_none, crate::proofs::Levels::within_below))]
 fn past_within<'t, 'a>(levels: u32, tokens: &'t [Token<'a>]) -> Past<'t, 'a>
-    ensures found { seen result ≡ past_within levels (terminals_of tokens.now) }
-    ensures within { IfOk result (λ rest. length rest.now ≤ length tokens.now) }
+    ensures { seen result ≡ past_within levels (terminals_of tokens.now) }
 {
     if levels == 0 {
         return lacking(Lack::Nesting, tokens);
@@ -168,8 +177,7 @@ fn past_within<'t, 'a>(levels: u32, tokens: &'t [Token<'a>]) -> Past<'t, 'a>
 #[cycle(expression)]
 #[tactic(auto, using(crate::proofs::Levels::inner_none, crate::proofs::Levels::inner_below))]
 fn past_inner<'t, 'a>(levels: u32, close: Mark, tokens: &'t [Token<'a>]) -> Past<'t, 'a>
-    ensures found { seen result ≡ past_inner levels close (terminals_of tokens.now) }
-    ensures within { IfOk result (λ rest. length rest.now ≤ length tokens.now) }
+    ensures { seen result ≡ past_inner levels close (terminals_of tokens.now) }
 {
     if levels == 0 {
         return lacking(Lack::Nesting, tokens);

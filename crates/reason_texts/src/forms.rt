@@ -1,13 +1,14 @@
 //! How far a line goes on as one of the forms that lines have.
 
-ghost use Rattle.std.specs.Prelude.{◌≡◌, ◌≤◌, length, IfOk};
-ghost use Rattle.occam_parser.specs.Terminals.{terminals_of};
-ghost use Rattle.occam_parser.specs.LineReading.{has_condition};
+ghost use Rattle.std.specs.Prelude.{◌≡◌};
+ghost use Rattle.occam_parser.specs.Terminals.{terminal_of, terminals_of};
+ghost use Rattle.occam_parser.specs.LineReading.{has_condition, is_guard_sign};
 ghost use Rattle.reason_texts.specs.Stuck.{seen};
 ghost use Rattle.reason_texts.specs.Forms.{past_whole, past_brackets, past_type, past_shape, past_formal, past_part};
 ghost use Rattle.reason_texts.specs.Forms.{past_list, past_parentheses, past_value, past_step, past_all, past_constant};
 ghost use Rattle.reason_texts.specs.Forms.{past_names, past_placed, past_named_action, past_replicator};
-ghost use Rattle.reason_texts.specs.Forms.{past_process, past_input, past_guard, past_item, past_form};
+ghost use Rattle.reason_texts.specs.Forms.{past_marked_process, past_process, past_input, past_guard};
+ghost use Rattle.reason_texts.specs.Forms.{past_procedure, past_item, past_form};
 
 use crate::expressions::past_expression;
 use crate::stuck::{Lack, Past, Wanted, behind, first, lacking, past_end, past_mark, past_name};
@@ -52,8 +53,6 @@ enum Step {
     /// What a constant denotes, which is a table or not.
     Value(bool),
     List(Part),
-    /// A list, if any, and the parenthesis that ends the line.
-    Parentheses(Part),
     End,
 }
 
@@ -66,8 +65,7 @@ macro_rules! steps {
 
 /// An expression has to come.
 fn past_whole<'t, 'a>(tokens: &'t [Token<'a>]) -> Past<'t, 'a>
-    ensures found { seen result ≡ past_whole (terminals_of tokens.now) }
-    ensures within { IfOk result (λ rest. length rest.now ≤ length tokens.now) }
+    ensures { seen result ≡ past_whole (terminals_of tokens.now) }
 {
     past_expression(MAX_NESTING, tokens)
 }
@@ -75,8 +73,7 @@ fn past_whole<'t, 'a>(tokens: &'t [Token<'a>]) -> Past<'t, 'a>
 /// An expression in brackets may come.
 #[tactic(auto, unfolding(crate::specs::Forms::past_brackets))]
 fn past_brackets<'t, 'a>(tokens: &'t [Token<'a>]) -> Past<'t, 'a>
-    ensures found { seen result ≡ past_brackets (terminals_of tokens.now) }
-    ensures within { IfOk result (λ rest. length rest.now ≤ length tokens.now) }
+    ensures { seen result ≡ past_brackets (terminals_of tokens.now) }
 {
     match behind(Mark::OpenBracket, tokens) {
         Some(after) => past_mark(Mark::CloseBracket, past_whole(after)?),
@@ -87,8 +84,7 @@ fn past_brackets<'t, 'a>(tokens: &'t [Token<'a>]) -> Past<'t, 'a>
 /// `INT` or `BYTE` has to come.
 #[tactic(auto, unfolding(crate::specs::Forms::past_type))]
 fn past_type<'t, 'a>(lack: Lack, tokens: &'t [Token<'a>]) -> Past<'t, 'a>
-    ensures found { seen result ≡ past_type lack (terminals_of tokens.now) }
-    ensures within { IfOk result (λ rest. length rest.now ≤ length tokens.now) }
+    ensures { seen result ≡ past_type lack (terminals_of tokens.now) }
 {
     match first(tokens) {
         Some((TokenKind::Mark(Mark::Int | Mark::Byte), rest)) => Ok(rest),
@@ -99,8 +95,7 @@ fn past_type<'t, 'a>(lack: Lack, tokens: &'t [Token<'a>]) -> Past<'t, 'a>
 /// A type has to come, or `CHAN OF` and a type.
 #[tactic(auto, unfolding(crate::specs::Forms::past_shape))]
 fn past_shape<'t, 'a>(tokens: &'t [Token<'a>]) -> Past<'t, 'a>
-    ensures found { seen result ≡ past_shape (terminals_of tokens.now) }
-    ensures within { IfOk result (λ rest. length rest.now ≤ length tokens.now) }
+    ensures { seen result ≡ past_shape (terminals_of tokens.now) }
 {
     match behind(Mark::Chan, tokens) {
         Some(after) => {
@@ -114,8 +109,7 @@ fn past_shape<'t, 'a>(tokens: &'t [Token<'a>]) -> Past<'t, 'a>
 /// A parameter of a procedure has to come.
 #[tactic(auto, unfolding(crate::specs::Forms::past_formal))]
 fn past_formal<'t, 'a>(tokens: &'t [Token<'a>]) -> Past<'t, 'a>
-    ensures found { seen result ≡ past_formal (terminals_of tokens.now) }
-    ensures within { IfOk result (λ rest. length rest.now ≤ length tokens.now) }
+    ensures { seen result ≡ past_formal (terminals_of tokens.now) }
 {
     match behind(Mark::Val, tokens) {
         Some(after) => {
@@ -131,8 +125,7 @@ fn past_formal<'t, 'a>(tokens: &'t [Token<'a>]) -> Past<'t, 'a>
 
 /// One of the parts of a list has to come.
 fn past_part<'t, 'a>(part: Part, tokens: &'t [Token<'a>]) -> Past<'t, 'a>
-    ensures found { seen result ≡ past_part part (terminals_of tokens.now) }
-    ensures within { IfOk result (λ rest. length rest.now ≤ length tokens.now) }
+    ensures { seen result ≡ past_part part (terminals_of tokens.now) }
 {
     match part {
         Part::Expression => past_whole(tokens),
@@ -144,8 +137,7 @@ fn past_part<'t, 'a>(part: Part, tokens: &'t [Token<'a>]) -> Past<'t, 'a>
 /// Parts with commas between them have to come. Each turn takes a token at least.
 #[tactic(auto, using(crate::proofs::Turns::more_none, crate::proofs::Turns::more_ends, crate::proofs::Turns::more_fails, crate::proofs::Turns::more_step), unfolding(crate::specs::Expressions::past_chain))]
 fn past_list<'t, 'a>(part: Part, tokens: &'t [Token<'a>]) -> Past<'t, 'a>
-    ensures found { seen result ≡ past_list part (terminals_of tokens.now) }
-    ensures within { IfOk result (λ rest. length rest.now ≤ length tokens.now) }
+    ensures { seen result ≡ past_list part (terminals_of tokens.now) }
 {
     let mut rest = past_part(part, tokens)?;
     let mut turns = rest.len();
@@ -159,26 +151,10 @@ fn past_list<'t, 'a>(part: Part, tokens: &'t [Token<'a>]) -> Past<'t, 'a>
     Ok(rest)
 }
 
-/// Parts with commas between them may come, and then the parenthesis that ends the line.
-#[tactic(auto, unfolding(crate::specs::Forms::past_parentheses))]
-fn past_parentheses<'t, 'a>(part: Part, tokens: &'t [Token<'a>]) -> Past<'t, 'a>
-    ensures found { seen result ≡ past_parentheses part (terminals_of tokens.now) }
-    ensures within { IfOk result (λ rest. length rest.now ≤ length tokens.now) }
-{
-    match behind(Mark::CloseParenthesis, tokens) {
-        Some(rest) => past_end(rest),
-        None => {
-            let rest = past_list(part, tokens)?;
-            past_end(past_mark(Mark::CloseParenthesis, rest)?)
-        }
-    }
-}
-
 /// What a constant denotes has to come.
 #[tactic(auto, unfolding(crate::specs::Forms::past_value))]
 fn past_value<'t, 'a>(is_table: bool, tokens: &'t [Token<'a>]) -> Past<'t, 'a>
-    ensures found { seen result ≡ past_value is_table (terminals_of tokens.now) }
-    ensures within { IfOk result (λ rest. length rest.now ≤ length tokens.now) }
+    ensures { seen result ≡ past_value is_table (terminals_of tokens.now) }
 {
     if !is_table {
         return past_whole(tokens);
@@ -194,8 +170,7 @@ fn past_value<'t, 'a>(is_table: bool, tokens: &'t [Token<'a>]) -> Past<'t, 'a>
 
 /// One step has to come.
 fn past_step<'t, 'a>(step: Step, tokens: &'t [Token<'a>]) -> Past<'t, 'a>
-    ensures found { seen result ≡ past_step step (terminals_of tokens.now) }
-    ensures within { IfOk result (λ rest. length rest.now ≤ length tokens.now) }
+    ensures { seen result ≡ past_step step (terminals_of tokens.now) }
 {
     match step {
         Step::Name => past_name(tokens),
@@ -206,7 +181,6 @@ fn past_step<'t, 'a>(step: Step, tokens: &'t [Token<'a>]) -> Past<'t, 'a>
         Step::Brackets => past_brackets(tokens),
         Step::Value(is_table) => past_value(is_table, tokens),
         Step::List(part) => past_list(part, tokens),
-        Step::Parentheses(part) => past_parentheses(part, tokens),
         Step::End => past_end(tokens),
     }
 }
@@ -215,8 +189,7 @@ fn past_step<'t, 'a>(step: Step, tokens: &'t [Token<'a>]) -> Past<'t, 'a>
 #[cycle(steps)]
 #[tactic(auto, using(crate::proofs::Steps::stays))]
 fn past_all<'t, 'a>(steps: &[Step], tokens: &'t [Token<'a>]) -> Past<'t, 'a>
-    ensures found { seen result ≡ past_all steps.now (terminals_of tokens.now) }
-    ensures within { IfOk result (λ rest. length rest.now ≤ length tokens.now) }
+    ensures { seen result ≡ past_all steps.now (terminals_of tokens.now) }
 {
     match steps.split_first() {
         Some((step, others)) => past_all(others, past_step(*step, tokens)?),
@@ -224,11 +197,21 @@ fn past_all<'t, 'a>(steps: &[Step], tokens: &'t [Token<'a>]) -> Past<'t, 'a>
     }
 }
 
+/// Parts with commas between them may come, and then the parenthesis that ends the line.
+#[tactic(auto, unfolding(crate::specs::Forms::past_parentheses))]
+fn past_parentheses<'t, 'a>(part: Part, tokens: &'t [Token<'a>]) -> Past<'t, 'a>
+    ensures { seen result ≡ past_parentheses part (terminals_of tokens.now) }
+{
+    match behind(Mark::CloseParenthesis, tokens) {
+        Some(rest) => past_end(rest),
+        None => past_all(steps!(List(part) Mark(Mark::CloseParenthesis) End), tokens),
+    }
+}
+
 /// A constant has to come, after the word `VAL`.
 #[tactic(auto, unfolding(crate::specs::Forms::past_constant))]
 fn past_constant<'t, 'a>(tokens: &'t [Token<'a>]) -> Past<'t, 'a>
-    ensures found { seen result ≡ past_constant (terminals_of tokens.now) }
-    ensures within { IfOk result (λ rest. length rest.now ≤ length tokens.now) }
+    ensures { seen result ≡ past_constant (terminals_of tokens.now) }
 {
     let is_table = behind(Mark::OpenBracket, tokens).is_some();
     let steps = steps!(Brackets Type Name Mark(Mark::Is) Value(is_table) Mark(Mark::Colon) End);
@@ -238,8 +221,7 @@ fn past_constant<'t, 'a>(tokens: &'t [Token<'a>]) -> Past<'t, 'a>
 /// A declaration of variables or channels has to come.
 #[tactic(auto, unfolding(crate::specs::Forms::past_names))]
 fn past_names<'t, 'a>(tokens: &'t [Token<'a>]) -> Past<'t, 'a>
-    ensures found { seen result ≡ past_names (terminals_of tokens.now) }
-    ensures within { IfOk result (λ rest. length rest.now ≤ length tokens.now) }
+    ensures { seen result ≡ past_names (terminals_of tokens.now) }
 {
     past_all(
         steps!(Brackets Shape List(Part::Name) Mark(Mark::Colon) End),
@@ -250,8 +232,7 @@ fn past_names<'t, 'a>(tokens: &'t [Token<'a>]) -> Past<'t, 'a>
 /// An assignment or a communication has to go on, after its first place.
 #[tactic(auto, unfolding(crate::specs::Forms::past_placed))]
 fn past_placed<'t, 'a>(tokens: &'t [Token<'a>]) -> Past<'t, 'a>
-    ensures found { seen result ≡ past_placed (terminals_of tokens.now) }
-    ensures within { IfOk result (λ rest. length rest.now ≤ length tokens.now) }
+    ensures { seen result ≡ past_placed (terminals_of tokens.now) }
 {
     match first(tokens) {
         Some((TokenKind::Mark(Mark::Assign | Mark::Output), after)) => {
@@ -265,8 +246,7 @@ fn past_placed<'t, 'a>(tokens: &'t [Token<'a>]) -> Past<'t, 'a>
 /// An assignment, a communication or an instance has to go on, after its first name.
 #[tactic(auto, unfolding(crate::specs::Forms::past_named_action))]
 fn past_named_action<'t, 'a>(tokens: &'t [Token<'a>]) -> Past<'t, 'a>
-    ensures found { seen result ≡ past_named_action (terminals_of tokens.now) }
-    ensures within { IfOk result (λ rest. length rest.now ≤ length tokens.now) }
+    ensures { seen result ≡ past_named_action (terminals_of tokens.now) }
 {
     match behind(Mark::OpenParenthesis, tokens) {
         Some(after) => past_parentheses(Part::Expression, after),
@@ -277,8 +257,7 @@ fn past_named_action<'t, 'a>(tokens: &'t [Token<'a>]) -> Past<'t, 'a>
 /// A replicator may come, and then the end of the line.
 #[tactic(auto, unfolding(crate::specs::Forms::past_replicator))]
 fn past_replicator<'t, 'a>(tokens: &'t [Token<'a>]) -> Past<'t, 'a>
-    ensures found { seen result ≡ past_replicator (terminals_of tokens.now) }
-    ensures within { IfOk result (λ rest. length rest.now ≤ length tokens.now) }
+    ensures { seen result ≡ past_replicator (terminals_of tokens.now) }
 {
     if tokens.is_empty() {
         return Ok(tokens);
@@ -289,24 +268,41 @@ fn past_replicator<'t, 'a>(tokens: &'t [Token<'a>]) -> Past<'t, 'a>
     )
 }
 
+/// A line of a process has to come of which this mark is the first token, and these are the tokens after it.
+#[tactic(auto, unfolding(crate::specs::Forms::past_marked_process))]
+fn past_marked_process<'t, 'a>(
+    mark: Mark,
+    tokens: &'t [Token<'a>],
+    rest: &'t [Token<'a>],
+) -> Past<'t, 'a>
+    ensures { seen result ≡ past_marked_process mark (terminals_of tokens.now) (terminals_of rest.now) }
+{
+    match mark {
+        Mark::Val => past_constant(rest),
+        Mark::Int | Mark::Byte | Mark::Chan | Mark::OpenBracket => past_names(tokens),
+        Mark::Skip | Mark::Stop => past_end(rest),
+        Mark::Seq | Mark::Par | Mark::If | Mark::Alt => past_replicator(rest),
+        _ => lacking(Lack::Token(Wanted::Process), tokens),
+    }
+}
+
 /// A line of a process has to come.
-#[tactic(auto, unfolding(crate::specs::Forms::past_process, crate::specs::Forms::past_marked_process))]
+#[tactic(auto, unfolding(crate::specs::Forms::past_process))]
 fn past_process<'t, 'a>(tokens: &'t [Token<'a>]) -> Past<'t, 'a>
-    ensures found { seen result ≡ past_process (terminals_of tokens.now) }
-    ensures within { IfOk result (λ rest. length rest.now ≤ length tokens.now) }
+    ensures { seen result ≡ past_process (terminals_of tokens.now) }
 {
     match first(tokens) {
         Some((TokenKind::Name(_), rest)) => past_named_action(rest),
-        Some((TokenKind::Mark(Mark::Val), rest)) => past_constant(rest),
-        Some((TokenKind::Mark(Mark::Int | Mark::Byte | Mark::Chan | Mark::OpenBracket), _)) => {
-            past_names(tokens)
-        }
-        Some((TokenKind::Mark(Mark::Skip | Mark::Stop), rest)) => past_end(rest),
-        Some((TokenKind::Mark(Mark::Seq | Mark::Par | Mark::If | Mark::Alt), rest)) => {
-            past_replicator(rest)
-        }
+        Some((TokenKind::Mark(mark), rest)) => past_marked_process(mark, tokens, rest),
         _ => lacking(Lack::Token(Wanted::Process), tokens),
     }
+}
+
+/// Whether a token is the sign between a condition and its guard.
+fn is_guard_sign(token: TokenKind<'_>) -> bool
+    ensures { result ≡ is_guard_sign (terminal_of token.entry) }
+{
+    matches!(token, TokenKind::Mark(Mark::Guard))
 }
 
 /// Whether a line has a condition before its guard.
@@ -316,7 +312,7 @@ fn has_condition(tokens: &[Token<'_>]) -> bool
 {
     let mut next = first(tokens);
     while let Some((token, rest)) = next {
-        if matches!(token, TokenKind::Mark(Mark::Guard)) {
+        if is_guard_sign(token) {
             return true;
         }
         next = first(rest);
@@ -327,8 +323,7 @@ fn has_condition(tokens: &[Token<'_>]) -> bool
 /// `channel ? target` has to come, and then the end of the line.
 #[tactic(auto, unfolding(crate::specs::Forms::past_input))]
 fn past_input<'t, 'a>(tokens: &'t [Token<'a>]) -> Past<'t, 'a>
-    ensures found { seen result ≡ past_input (terminals_of tokens.now) }
-    ensures within { IfOk result (λ rest. length rest.now ≤ length tokens.now) }
+    ensures { seen result ≡ past_input (terminals_of tokens.now) }
 {
     past_all(
         steps!(Name Brackets Mark(Mark::Input) Name Brackets End),
@@ -339,8 +334,7 @@ fn past_input<'t, 'a>(tokens: &'t [Token<'a>]) -> Past<'t, 'a>
 /// A guard has to come.
 #[tactic(auto, unfolding(crate::specs::Forms::past_guard))]
 fn past_guard<'t, 'a>(tokens: &'t [Token<'a>]) -> Past<'t, 'a>
-    ensures found { seen result ≡ past_guard (terminals_of tokens.now) }
-    ensures within { IfOk result (λ rest. length rest.now ≤ length tokens.now) }
+    ensures { seen result ≡ past_guard (terminals_of tokens.now) }
 {
     if !has_condition(tokens) {
         return past_input(tokens);
@@ -352,20 +346,22 @@ fn past_guard<'t, 'a>(tokens: &'t [Token<'a>]) -> Past<'t, 'a>
     }
 }
 
+/// The head of a procedure has to come, after the word `PROC`.
+fn past_procedure<'t, 'a>(tokens: &'t [Token<'a>]) -> Past<'t, 'a>
+    ensures { seen result ≡ past_procedure (terminals_of tokens.now) }
+{
+    let rest = past_all(steps!(Name Mark(Mark::OpenParenthesis)), tokens)?;
+    past_parentheses(Part::Formal, rest)
+}
+
 /// A constant or the head of a procedure has to come.
 #[tactic(auto, unfolding(crate::specs::Forms::past_item))]
 fn past_item<'t, 'a>(tokens: &'t [Token<'a>]) -> Past<'t, 'a>
-    ensures found { seen result ≡ past_item (terminals_of tokens.now) }
-    ensures within { IfOk result (λ rest. length rest.now ≤ length tokens.now) }
+    ensures { seen result ≡ past_item (terminals_of tokens.now) }
 {
     match first(tokens) {
         Some((TokenKind::Mark(Mark::Val), rest)) => past_constant(rest),
-        Some((TokenKind::Mark(Mark::Proc), rest)) => {
-            past_all(
-                steps!(Name Mark(Mark::OpenParenthesis) Parentheses(Part::Formal)),
-                rest,
-            )
-        }
+        Some((TokenKind::Mark(Mark::Proc), rest)) => past_procedure(rest),
         _ => lacking(Lack::Token(Wanted::Item), tokens),
     }
 }

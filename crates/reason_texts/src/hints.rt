@@ -13,7 +13,7 @@ macro_rules! lacked {
 
 /// The words, each with what to write in its place: those that begin a construct, of types, of declarations, and between
 /// or before operands.
-const LACKED_WORDS: [(&str, &str); 25] = [
+static LACKED_WORDS: [(&str, &str); 25] = [
     lacked!("WHILE" "; a loop has a constant count: SEQ i = 0 FOR n"),
     lacked!("CASE" "; write an IF whose choices are as x = 1"),
     lacked!("PRI" "; write ALT or PAR"),
@@ -42,10 +42,10 @@ const LACKED_WORDS: [(&str, &str); 25] = [
 ];
 
 /// The words, as rows of a table.
-fn lacked_words() -> [(&'static str, &'static str); 25]
-    ensures { map row_of result ≡ lacked_words }
+fn lacked_words() -> &'static [(&'static str, &'static str)]
+    ensures { map row_of result.now ≡ lacked_words }
 {
-    LACKED_WORDS
+    &LACKED_WORDS
 }
 
 /// The row of a word, if it has one.
@@ -59,8 +59,7 @@ fn row_for<'r, 's>(rows: &'r [(&'s str, &'s str)], word: &[u8]) -> Option<&'r (&
 pub(crate) fn word_hint(word: &[u8]) -> Option<&'static str>
     ensures { option_map (λ h. h.now) result ≡ word_hint word.now }
 {
-    let rows = lacked_words();
-    match row_for(&rows, word) {
+    match row_for(lacked_words(), word) {
         Some(row) => Some(row.1),
         None => None,
     }

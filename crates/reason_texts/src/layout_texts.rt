@@ -65,7 +65,6 @@ fn push_token(text: &mut String, line: &[u8], bad: BadToken) -> Result<(), Alloc
 }
 
 /// Appends why a line has no tokens, or a source no lines.
-#[tactic(auto, unfolding(crate::specs::LayoutTexts::sentence))]
 fn push_sentence(text: &mut String, line: &[u8], reason: LayoutReason) -> Result<(), AllocError>
     ensures { OnOk result (string_bytes text.new ≡ string_bytes text.old ++ sentence line.now reason) }
 {

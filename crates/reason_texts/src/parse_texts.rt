@@ -221,7 +221,6 @@ fn push_found(
 }
 
 /// Appends that something else is wanted at a place, or what else is wrong there.
-#[tactic(auto, unfolding(crate::specs::ParseTexts::lack_text))]
 fn push_lack(text: &mut String, lack: Lack) -> Result<(), AllocError>
     ensures { OnOk result (string_bytes text.new ≡ string_bytes text.old ++ lack_text lack) }
 {
@@ -250,7 +249,6 @@ fn push_stuck(
 }
 
 /// Appends why a line is no part of a program.
-#[tactic(auto, unfolding(crate::specs::ParseTexts::sentence))]
 fn push_sentence(
     text: &mut String,
     line: &[u8],

@@ -1,6 +1,6 @@
 //! Where a line goes on in no way that its form has, and the front of some tokens.
 
-ghost use Rattle.std.specs.Prelude.{◌≡◌, ◌<◌, ◌≤◌, [], ◌∷◌, length, option_map, IfOk, IfSome, MatchOption, Ok};
+ghost use Rattle.std.specs.Prelude.{◌≡◌, ◌<◌, [], ◌∷◌, length, option_map, IfSome, MatchOption};
 ghost use Rattle.occam_parser.specs.Terminals.{terminal_of, terminals_of};
 ghost use Rattle.occam_parser.specs.Reading.{behind};
 ghost use Rattle.reason_texts.specs.Stuck.{seen, lacking, past_mark, past_name, past_end};
@@ -78,8 +78,7 @@ pub(crate) fn first<'t, 'a>(tokens: &'t [Token<'a>]) -> Option<(TokenKind<'a>, &
 /// The tokens after this mark, where they begin with it.
 #[tactic(auto, unfolding(occam_parser::specs::Reading::behind))]
 pub(crate) fn behind<'t, 'a>(mark: Mark, tokens: &'t [Token<'a>]) -> Option<&'t [Token<'a>]>
-    ensures behind { option_map (λ rest. terminals_of rest.now) result ≡ behind mark (terminals_of tokens.now) }
-    ensures shorter { IfSome result (λ rest. length rest.now < length tokens.now) }
+    ensures { option_map (λ rest. terminals_of rest.now) result ≡ behind mark (terminals_of tokens.now) }
 {
     match first(tokens) {
         Some((TokenKind::Mark(found), rest)) if found == mark => Some(rest),
@@ -90,8 +89,7 @@ pub(crate) fn behind<'t, 'a>(mark: Mark, tokens: &'t [Token<'a>]) -> Option<&'t 
 /// A mark has to come.
 #[tactic(auto, unfolding(crate::specs::Stuck::past_mark))]
 pub(crate) fn past_mark<'t, 'a>(mark: Mark, tokens: &'t [Token<'a>]) -> Past<'t, 'a>
-    ensures found { seen result ≡ past_mark mark (terminals_of tokens.now) }
-    ensures within { IfOk result (λ rest. length rest.now ≤ length tokens.now) }
+    ensures { seen result ≡ past_mark mark (terminals_of tokens.now) }
 {
     match behind(mark, tokens) {
         Some(rest) => Ok(rest),
@@ -102,8 +100,7 @@ pub(crate) fn past_mark<'t, 'a>(mark: Mark, tokens: &'t [Token<'a>]) -> Past<'t,
 /// A name has to come.
 #[tactic(auto, unfolding(crate::specs::Stuck::past_name))]
 pub(crate) fn past_name<'t, 'a>(tokens: &'t [Token<'a>]) -> Past<'t, 'a>
-    ensures found { seen result ≡ past_name (terminals_of tokens.now) }
-    ensures within { IfOk result (λ rest. length rest.now ≤ length tokens.now) }
+    ensures { seen result ≡ past_name (terminals_of tokens.now) }
 {
     match first(tokens) {
         Some((TokenKind::Name(_), rest)) => Ok(rest),
@@ -114,8 +111,7 @@ pub(crate) fn past_name<'t, 'a>(tokens: &'t [Token<'a>]) -> Past<'t, 'a>
 /// Nothing may come.
 #[tactic(auto, unfolding(crate::specs::Stuck::past_end))]
 pub(crate) fn past_end<'t, 'a>(tokens: &'t [Token<'a>]) -> Past<'t, 'a>
-    ensures found { seen result ≡ past_end (terminals_of tokens.now) }
-    ensures within { IfOk result (λ rest. length rest.now ≤ length tokens.now) }
+    ensures { seen result ≡ past_end (terminals_of tokens.now) }
 {
     if tokens.is_empty() {
         Ok(tokens)

@@ -1,4 +1,4 @@
-use Rattle.std.proofs.Common.{◌≡◌, ◌+◌, ◌*◌, ◌≤◌, length}
+use Rattle.std.proofs.Common.{◌≡◌, ◌+◌, ◌*◌}
 use Rattle.occam_parser.specs.Terminals.{terminals_of}
 use Rattle.reason_texts.specs.Expressions.{past_operand, past_more, past_chain}
 use Rattle.reason_texts.proofs.expressions.+expression.Given as goal
@@ -15,6 +15,9 @@ decreases-past_chain l = 6 * l.levels + 3
 abbrev pub decreases-past_operand : goal.decreases-past_operand
 decreases-past_operand l = 6 * l.levels + 2
 
+abbrev pub decreases-past_marked : goal.decreases-past_marked
+decreases-past_marked l = 6 * l.levels + 1
+
 abbrev pub decreases-past_within : goal.decreases-past_within
 decreases-past_within l = 6 * l.levels
 
@@ -22,11 +25,9 @@ abbrev pub decreases-past_inner : goal.decreases-past_inner
 decreases-past_inner l = 6 * l.levels
 
 abbrev pub invariant-past_chain-loop-turns : goal.invariant-past_chain-loop-turns
-invariant-past_chain-loop-turns l = record {
-  within : length l.rest ≤ length l.tokens;
-  so_far : past_more (past_operand l.levels) l.mark l.turns (terminals_of l.rest) ≡ past_chain (past_operand l.levels)
-      l.mark (terminals_of l.tokens);
-}
+invariant-past_chain-loop-turns l =
+    past_more (past_operand l.levels) l.mark l.turns (terminals_of l.rest)
+    ≡ past_chain (past_operand l.levels) l.mark (terminals_of l.tokens)
 
 abbrev pub decreases-past_chain-loop-turns : goal.decreases-past_chain-loop-turns
 decreases-past_chain-loop-turns l = l.turns
