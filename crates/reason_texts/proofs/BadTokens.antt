@@ -1,10 +1,8 @@
 -- A line gone over byte by byte, up to its first bad token.
-use Rattle.std.proofs.Common.{◌≡◌, ℕ, zero, suc, pred, ◌+◌, ◌-◌, ◌<◌, Bool, false, cond, List, ◌∷◌, Ok, refl, ap, sym, ◌∙◌}
-use Rattle.std.proofs.Common.{arith}
-use Rattle.std.specs.Prelude.{◌==◌}
+use Rattle.std.proofs.Common.{◌≡◌, ℕ, zero, suc, pred, ◌+◌, ◌-◌, ◌<◌, false, List, ◌∷◌, Ok, refl, ap, ◌∙◌, arith}
 use Rattle.std.proofs.lemmas.Bool.{eq-eqb, ne_eqb}
 use Rattle.occam_layout.specs.Reading.{begins_comment}
-use Rattle.reason_texts.specs.Tokens.{token_len, bad_or, bad_token}
+use Rattle.reason_texts.specs.Tokens.{token_len, bad_token}
 
 -- a byte of a token that was read
 pub bad-passed : (passed at c : ℕ) (rest : List ℕ) → 0 < passed
@@ -24,16 +22,11 @@ less_one : (len : ℕ) → pred len ≡ len - 1
 less_one zero = refl
 less_one (suc n) = omega arith
 
-chosen : {A : Type 0} (a b : Bool) (x y z : A) → a ≡ false → b ≡ false → cond a x (cond b y z) ≡ z
-chosen a b x y z first second = rw (first, second) refl
-
 -- a token
 pub bad-others : (passed next at c len : ℕ) (rest : List ℕ) → passed ≡ 0 → (c ≡ 32 → ⊥)
     → begins_comment (c ∷ rest) ≡ false → Ok len ≡ token_len (c ∷ rest) → next ≡ len - 1
     → bad_token passed at (c ∷ rest) ≡ bad_token next (at + 1) rest
 unfolding bad_token
 bad-others zero next at c len rest none other counts found is_next =
-    let less : next ≡ pred len = is_next ∙ sym (less_one len) in
-    let others = λ (passed : ℕ). bad_token passed (at + 1) rest in
-    chosen (c == 32) _ _ _ _ (ne_eqb _ _ other) counts ∙ ap (bad_or at others) (sym found) ∙ ap others (sym less)
+    rw (is_next, ← less_one len, ne_eqb _ _ other, counts, ← found) refl
 bad-others (suc n) next at c len rest none other counts found is_next = absurd (omega (arith, none))

@@ -6,7 +6,7 @@ ghost use Rattle.reason_texts.specs.Stuck.{seen};
 ghost use Rattle.reason_texts.specs.Expressions.{joint_of, joint_at, prefix_at, past_expression, past_operand};
 ghost use Rattle.reason_texts.specs.Expressions.{one_operator, past_chain, past_marked, past_within, past_inner};
 
-use crate::stuck::{Lack, Past, Wanted, behind, first, lacking, past_mark};
+use crate::stuck::{Lack, Past, Wanted, behind, closed, first, lacking, past_mark};
 use occam_layout::{Mark, Token, TokenKind};
 
 /// An operator between operands.
@@ -182,5 +182,5 @@ fn past_inner<'t, 'a>(levels: u32, close: Mark, tokens: &'t [Token<'a>]) -> Past
     if levels == 0 {
         return lacking(Lack::Nesting, tokens);
     }
-    past_mark(close, past_expression(levels - 1, tokens)?)
+    closed(close, past_expression(levels - 1, tokens))
 }

@@ -11,7 +11,9 @@ ghost use Rattle.reason_texts.specs.Forms.{past_marked_process, past_process, pa
 ghost use Rattle.reason_texts.specs.Forms.{past_procedure, past_item, past_form};
 
 use crate::expressions::past_expression;
-use crate::stuck::{Lack, Past, Wanted, behind, first, lacking, past_end, past_mark, past_name};
+use crate::stuck::{
+    Lack, Past, Wanted, behind, closed, first, lacking, past_end, past_mark, past_name,
+};
 use occam_layout::{Mark, Token, TokenKind};
 use occam_parser::MAX_NESTING;
 
@@ -76,7 +78,7 @@ fn past_brackets<'t, 'a>(tokens: &'t [Token<'a>]) -> Past<'t, 'a>
     ensures { seen result ≡ past_brackets (terminals_of tokens.now) }
 {
     match behind(Mark::OpenBracket, tokens) {
-        Some(after) => past_mark(Mark::CloseBracket, past_whole(after)?),
+        Some(after) => closed(Mark::CloseBracket, past_whole(after)),
         None => Ok(tokens),
     }
 }
@@ -162,7 +164,7 @@ fn past_value<'t, 'a>(is_table: bool, tokens: &'t [Token<'a>]) -> Past<'t, 'a>
     match first(tokens) {
         Some((TokenKind::Text(_), rest)) => Ok(rest),
         Some((TokenKind::Mark(Mark::OpenBracket), after)) => {
-            past_mark(Mark::CloseBracket, past_list(Part::Expression, after)?)
+            closed(Mark::CloseBracket, past_list(Part::Expression, after))
         }
         _ => lacking(Lack::Token(Wanted::Table), tokens),
     }

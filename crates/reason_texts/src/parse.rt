@@ -81,7 +81,8 @@ fn line_reason(above: &[Line<'_>], line: &Line<'_>, is_last: bool) -> Option<Par
 
 /// A reason, if it is of this number.
 fn of_number(number: u8, reason: Option<ParseReason>) -> Option<ParseReason>
-    ensures { result ≡ of_number number reason }
+    ensures exact { result ≡ of_number number reason }
+    ensures number { IfSome result (λ reason. number_of reason ≡ number) }
 {
     match reason {
         Some(reason) if number_of(reason) == number => Some(reason),

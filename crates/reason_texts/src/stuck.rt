@@ -3,7 +3,7 @@
 ghost use Rattle.std.specs.Prelude.{◌≡◌, ◌<◌, [], ◌∷◌, length, option_map, IfSome, MatchOption};
 ghost use Rattle.occam_parser.specs.Terminals.{terminal_of, terminals_of};
 ghost use Rattle.occam_parser.specs.Reading.{behind};
-ghost use Rattle.reason_texts.specs.Stuck.{seen, lacking, past_mark, past_name, past_end};
+ghost use Rattle.reason_texts.specs.Stuck.{seen, ◌then◌, lacking, past_mark, past_name, past_end};
 
 use occam_layout::{Mark, Token, TokenKind};
 
@@ -95,6 +95,13 @@ pub(crate) fn past_mark<'t, 'a>(mark: Mark, tokens: &'t [Token<'a>]) -> Past<'t,
         Some(rest) => Ok(rest),
         None => lacking(Lack::Token(Wanted::Mark(mark)), tokens),
     }
+}
+
+/// The mark has to come that closes what was read.
+pub(crate) fn closed<'t, 'a>(close: Mark, inside: Past<'t, 'a>) -> Past<'t, 'a>
+    ensures { seen result ≡ seen inside.entry then past_mark close }
+{
+    past_mark(close, inside?)
 }
 
 /// A name has to come.

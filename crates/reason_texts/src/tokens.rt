@@ -107,7 +107,9 @@ fn quoted(quote: u8, bytes: &[u8]) -> Result<(usize, usize), BadToken>
     ensures place { IfErr result (λ b. b.at ≤ length bytes.now + 1) }
     ensures within { IfOk result (λ x. x.1 < length bytes.now) }
 {
-    let len = body_len(quote, bytes).ok_or(bad(TokenFault::Unclosed, 0, 1))?;
+    let Some(len) = body_len(quote, bytes) else {
+        return Err(bad(TokenFault::Unclosed, 0, 1));
+    };
     let (body, _) = bytes.split_at(len);
     match characters_in(body) {
         Ok(count) => Ok((count, len)),
@@ -190,15 +192,9 @@ fn sign_len(bytes: &[u8]) -> Result<usize, BadToken>
     ensures place { IfErr result (λ b. b.at ≤ length bytes.now) }
     ensures within { IfOk result (λ n. n ≤ length bytes.now) }
 {
-    let pair = match bytes {
-        [first, second, ..] => is_pair(&[*first, *second]),
-        _ => false,
-    };
-    if pair {
-        return Ok(2);
-    }
-    match bytes.first() {
-        Some(first) if is_single(*first) => Ok(1),
+    match bytes {
+        [first, second, ..] if is_pair(&[*first, *second]) => Ok(2),
+        [first, ..] if is_single(*first) => Ok(1),
         _ => Err(bad(TokenFault::NoToken, 0, 1)),
     }
 }
@@ -210,7 +206,9 @@ pub(crate) fn token_len(bytes: &[u8]) -> Result<usize, BadToken>
     ensures place { IfErr result (λ b. b.at ≤ length bytes.now) }
     ensures within { IfOk result (λ n. n ≤ length bytes.now) }
 {
-    let (first, rest) = bytes.split_first().ok_or(bad(TokenFault::NoToken, 0, 1))?;
+    let Some((first, rest)) = bytes.split_first() else {
+        return Err(bad(TokenFault::NoToken, 0, 1));
+    };
     if first.is_ascii_alphabetic() {
         return Ok(front_len(Class::InName, bytes));
     }
