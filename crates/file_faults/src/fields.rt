@@ -162,7 +162,7 @@ pub(crate) struct GroupRecord {
 macro_rules! field {
     ($number:ident $name:literal $wanted:literal, $role:ident $(($count:ident))?
         => $next:ident $(($group:ident))?) => {
-        FieldRecord {
+        &FieldRecord {
             number: Number::$number,
             name: $name,
             wanted: $wanted,
@@ -178,7 +178,7 @@ macro_rules! field {
 
 macro_rules! group {
     ($words:literal in $outer:ident, $first:ident .. $after:ident $(($group:ident))?) => {
-        GroupRecord {
+        &GroupRecord {
             words: $words,
             outer: Group::$outer,
             first: Field::$first,
@@ -189,8 +189,8 @@ macro_rules! group {
 
 /// A field, by the table of those before the rows and of a table row.
 #[tactic(auto, unfolding(crate::specs::Fields::field_of))]
-pub(crate) fn field_of(field: Field) -> FieldRecord
-    ensures { IsField result (field_of field) }
+pub(crate) fn field_of(field: Field) -> &'static FieldRecord
+    ensures { IsField result.now (field_of field) }
 {
     match field {
         Field::Magic => field!(Word "magic" "TPM1 or TPM2", Version => CodeSize),
@@ -223,8 +223,8 @@ pub(crate) fn field_of(field: Field) -> FieldRecord
 
 /// A field, by the table of those of a procedure row.
 #[tactic(auto, unfolding(crate::specs::Fields::procedure_field))]
-fn procedure_field(field: Field) -> FieldRecord
-    ensures { IsField result (procedure_field field) }
+fn procedure_field(field: Field) -> &'static FieldRecord
+    ensures { IsField result.now (procedure_field field) }
 {
     match field {
         Field::ProcedureEntry => field!(Word "entry"
@@ -248,8 +248,8 @@ fn procedure_field(field: Field) -> FieldRecord
 
 /// A field, by the table of those of a label row.
 #[tactic(auto, unfolding(crate::specs::Fields::label_field))]
-fn label_field(field: Field) -> FieldRecord
-    ensures { IsField result (label_field field) }
+fn label_field(field: Field) -> &'static FieldRecord
+    ensures { IsField result.now (label_field field) }
 {
     match field {
         Field::LabelOffset => field!(Word "offset"
@@ -280,8 +280,8 @@ fn label_field(field: Field) -> FieldRecord
 
 /// A field, by the table of those of a PAR row, or the end.
 #[tactic(auto, unfolding(crate::specs::Fields::branch_field))]
-fn branch_field(field: Field) -> FieldRecord
-    ensures { IsField result (branch_field field) }
+fn branch_field(field: Field) -> &'static FieldRecord
+    ensures { IsField result.now (branch_field field) }
 {
     match field {
         Field::ParContext => field!(Short "context"
@@ -322,8 +322,8 @@ fn branch_field(field: Field) -> FieldRecord
 
 /// A group, by the table of groups.
 #[tactic(auto, unfolding(crate::specs::Fields::group_of))]
-pub(crate) fn group_of(group: Group) -> GroupRecord
-    ensures { IsGroup result (group_of group) }
+pub(crate) fn group_of(group: Group) -> &'static GroupRecord
+    ensures { IsGroup result.now (group_of group) }
 {
     match group {
         Group::File => group!("" in File, Magic .. End),

@@ -2,6 +2,7 @@
 #![tactic(auto, unfolding(crate::specs::Names::item_text, crate::specs::Names::place_text))]
 
 ghost use Rattle.std.specs.Prelude.{◌≡◌, ◌++◌, OnOk, string_bytes};
+ghost use Rattle.std.specs.Fmt.{decimal};
 ghost use Rattle.file_faults.specs.Names.{item_of, item_text, place_text, register_name, signed_of, value_text};
 
 use crate::fields::{Group, Number, group_of};
@@ -26,6 +27,19 @@ fn register_name(number: u64) -> &'static str
     }
 }
 
+/// Appends a number between words.
+pub(crate) fn push_numbered(
+    text: &mut String,
+    before: &str,
+    number: u64,
+    after: &str,
+) -> Result<(), AllocError>
+    ensures { OnOk result (string_bytes text.new
+        ≡ string_bytes text.old ++ (before.now ++ (decimal number ++ after.now))) }
+{
+    write!(text, "{before}{number}{after}")
+}
+
 /// Appends the one of a group that is here, by its number.
 fn push_item(text: &mut String, walk: Walk, group: Group) -> Result<(), AllocError>
     ensures { OnOk result (string_bytes text.new ≡ string_bytes text.old ++ item_text walk group) }
@@ -34,10 +48,7 @@ fn push_item(text: &mut String, walk: Walk, group: Group) -> Result<(), AllocErr
     match group {
         Group::File => text.push_str(""),
         Group::Registers => text.push_str(register_name(number)),
-        _ => {
-            let words = group_of(group).words;
-            write!(text, "{words}{number}, ")
-        }
+        _ => push_numbered(text, group_of(group).words, number, ", "),
     }
 }
 
@@ -48,8 +59,7 @@ pub(crate) fn push_place(text: &mut String, walk: Walk) -> Result<(), AllocError
     let outer = group_of(walk.group).outer;
     push_item(text, walk, group_of(outer).outer)?;
     push_item(text, walk, outer)?;
-    push_item(text, walk, walk.group)?;
-    Ok(())
+    push_item(text, walk, walk.group)
 }
 
 /// The signed word that a number is.

@@ -1,12 +1,11 @@
 //! Why a file is no module.
 
 ghost use Rattle.std.specs.Prelude.{◌≡◌, ◌++◌, OnOk, string_bytes};
-ghost use Rattle.std.specs.Fmt.{decimal};
 ghost use Rattle.file_faults.specs.FileFaults.{ended_text, field_text, file_fault, has_text, left_text, limit_of};
 ghost use Rattle.file_faults.specs.FileFaults.{limit_text, order_text, range_text, size_text, why, words_of};
 
 use crate::fields::{Group, Role, field_of};
-use crate::names::{push_place, push_value};
+use crate::names::{push_numbered, push_place, push_value};
 use crate::walking::{Found, found_at, value_at};
 use crate::walks::Walk;
 use module_format::{
@@ -87,19 +86,6 @@ fn push_order(text: &mut String, walk: Walk, value: u64) -> Result<(), AllocErro
     text.push_str(words_of(ORDER))
 }
 
-/// Appends a number between words.
-fn push_numbered(
-    text: &mut String,
-    before: &str,
-    number: u64,
-    after: &str,
-) -> Result<(), AllocError>
-    ensures { OnOk result (string_bytes text.new
-        ≡ string_bytes text.old ++ (before.now ++ (decimal number ++ after.now))) }
-{
-    write!(text, "{before}{number}{after}")
-}
-
 /// Appends how large the code or the data area is, if a number has to be within it.
 #[tactic(auto, unfolding(crate::specs::FileFaults::size_text))]
 fn push_size(text: &mut String, role: Role, code: u64, words: u64) -> Result<(), AllocError>
@@ -130,9 +116,8 @@ fn push_limit(text: &mut String, walk: Walk, value: u64) -> Result<(), AllocErro
     ensures { OnOk result (string_bytes text.new ≡ string_bytes text.old ++ limit_text walk value) }
 {
     let limit = limit_of(walk.is_two, field_of(walk.field).role);
-    let words = words_of(LIMIT);
     push_has(text, walk, value)?;
-    write!(text, "{words}{limit}")
+    push_numbered(text, words_of(LIMIT), limit, "")
 }
 
 /// Appends how many bytes come after the last row.
@@ -140,7 +125,7 @@ fn push_limit(text: &mut String, walk: Walk, value: u64) -> Result<(), AllocErro
 fn push_left(text: &mut String, count: usize) -> Result<(), AllocError>
     ensures { OnOk result (string_bytes text.new ≡ string_bytes text.old ++ left_text count) }
 {
-    write!(text, "{count} bytes come after the last row")
+    push_numbered(text, "", count as u64, " bytes come after the last row")
 }
 
 /// Appends why a file is no module, by the number of its fault, at the field that was found.
@@ -155,22 +140,14 @@ fn push_why(
 {
     let walk = found.walk;
     let value = value_at(bytes, found);
-    if fault.number == TRUNCATED {
-        return push_ended(text, walk);
+    match fault.number {
+        TRUNCATED => push_ended(text, walk),
+        ORDER => push_order(text, walk, value),
+        RANGE => push_range(text, walk, value),
+        LEFT_OVER => push_left(text, bytes.len().saturating_sub(fault.offset)),
+        LIMIT => push_limit(text, walk, value),
+        _ => text.push_str(words_of(fault.number)),
     }
-    if fault.number == ORDER {
-        return push_order(text, walk, value);
-    }
-    if fault.number == RANGE {
-        return push_range(text, walk, value);
-    }
-    if fault.number == LEFT_OVER {
-        return push_left(text, bytes.len().saturating_sub(fault.offset));
-    }
-    if fault.number == LIMIT {
-        return push_limit(text, walk, value);
-    }
-    text.push_str(words_of(fault.number))
 }
 
 /// Appends why a file is no module, which has this fault.
