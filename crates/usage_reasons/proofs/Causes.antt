@@ -1,6 +1,7 @@
 -- Why parts of expressions break a rule.
 use Rattle.std.proofs.Common.{◌≡◌, ℕ, ◌+◌, ◌<◌, ◌^◌, false, map, List, [], ◌∷◌, length, Result, Ok, Err, sym, subst, arith}
-use Rattle.std.proofs.Common.{length-append}
+use Rattle.std.proofs.Common.{length-append, Option, Some, None}
+use Rattle.std.specs.Prelude.{IfSome, option_map}
 use Rattle.occam_layout.specs.declared.mark.Mark.TheVariants as mark
 use Rattle.occam_parser.specs.Terminals.{Name, Mark}
 use Rattle.word_arithmetic.specs.Range.{ends_of}
@@ -18,10 +19,11 @@ use Rattle.program_uses.specs.Constants.{is_same_type}
 use Rattle.usage_reasons.specs.declared.reason.Why.{Why}
 use Rattle.usage_reasons.specs.declared.reason.Why.TheVariants as why
 use Rattle.usage_reasons.specs.Tokens.{capped}
-use Rattle.usage_reasons.specs.Causes.{IsCause, Fails, AreJoined, AreOperands, IsUnfit, unknown, other_sort}
+use Rattle.usage_reasons.specs.declared.cause.Cause.{Cause}
+use Rattle.usage_reasons.specs.Causes.{Breaks, IsCause, meant, Fails, AreJoined, AreOperands, IsUnfit, unknown, other_sort}
 use Rattle.usage_reasons.specs.Causes.{no_constant, no_constant_element, overflow, division, shift, conversion, outside}
 use Rattle.usage_reasons.specs.Causes.{unfit, other_type, no_number, other_types as compared}
-use Rattle.usage_reasons.proofs.Places.{itself}
+use Rattle.usage_reasons.proofs.Places.{itself, itself_if}
 
 -- an operator that fails where its operands lie there
 pub operator_fails : (es : List Entry) (e : Expression) (left right : Range) → AreOperands es e left right
@@ -54,17 +56,22 @@ pub ruleset types_unfit = (other_type, no_number)
 
 pub ruleset subscripts_fail = (outside)
 
-pub unfit_operand : (es : List Entry) (t : Term) (at len : ℕ) (found : Result ExprType ℕ) (w : Why) → at < 2 ^ 64
-    → len ≡ capped (length (written_term t)) → found ≡ type_of_term es t → IsUnfit found w
-    → IsCause es (written_term t) at (record { tokens = record { at = at; len = len }; why = w })
-unfit_operand es t at len found w fits count type other =
-    itself es (written_term t) at len w fits count (unfit (Alone t) w (subst (λ f. IsUnfit f w) type other))
+unfit_breaks : (es : List Entry) (e : Expression) (type : Result ExprType ℕ) (w : Option Why) → type ≡ type_of es e
+    → IfSome w (IsUnfit type) → IfSome w (Breaks es (written e))
+unfit_breaks es e type None is h = h
+unfit_breaks es e type (Some w) is h = unfit e w (subst (λ f. IsUnfit f w) is h)
 
-pub unfit_expression : (es : List Entry) (e : Expression) (at len : ℕ) (found : Result ExprType ℕ) (w : Why) → at < 2 ^ 64
-    → len ≡ capped (length (written e)) → found ≡ type_of es e → IsUnfit found w
-    → IsCause es (written e) at (record { tokens = record { at = at; len = len }; why = w })
-unfit_expression es e at len found w fits count type other =
-    itself es (written e) at len w fits count (unfit e w (subst (λ f. IsUnfit f w) type other))
+pub unfit_operand : (es : List Entry) (t : Term) (at len : ℕ) (type : Result ExprType ℕ) (w : Option Why)
+    (found : Option Cause) → found ≡ option_map (meant at len) w → at < 2 ^ 64 → len ≡ capped (length (written_term t))
+    → type ≡ type_of_term es t → IfSome w (IsUnfit type) → IfSome found (IsCause es (written_term t) at)
+unfit_operand es t at len type w found is fits count of h =
+    itself_if es (written_term t) at len w found is fits count (unfit_breaks es (Alone t) type w of h)
+
+pub unfit_expression : (es : List Entry) (e : Expression) (at len : ℕ) (type : Result ExprType ℕ) (w : Option Why)
+    (found : Option Cause) → found ≡ option_map (meant at len) w → at < 2 ^ 64 → len ≡ capped (length (written e))
+    → type ≡ type_of es e → IfSome w (IsUnfit type) → IfSome found (IsCause es (written e) at)
+unfit_expression es e at len type w found is fits count of h =
+    itself_if es (written e) at len w found is fits count (unfit_breaks es e type w of h)
 
 pub other_types : (es : List Entry) (e : Expression) (op : PairOperator) (a b : Term) (at len : ℕ) (left right : ExprType)
     → at < 2 ^ 64 → e ≡ Paired op a b → len ≡ capped (length (written e)) → type_of_term es a ≡ Ok left

@@ -1,7 +1,7 @@
 -- Where the causes of a part of a line are in the line.
 use Rattle.std.proofs.Common.{◌≡◌, ℕ, zero, suc, ◌+◌, ◌<◌, ◌^◌, List, [], ◌∷◌, ◌++◌, length, map, take, get_or, Option, Some}
 use Rattle.std.proofs.Common.{None, refl, sym, ap, subst, ◌∙◌, arith, append_assoc, length-append, append-nil}
-use Rattle.std.specs.Prelude.{IfSome}
+use Rattle.std.specs.Prelude.{IfSome, option_map}
 use Rattle.occam_parser.specs.declared.tree.ChainOperator.{ChainOperator}
 use Rattle.occam_parser.specs.declared.tree.Operand.{Operand}
 use Rattle.occam_parser.specs.Terminals.{Terminal, Name, Mark}
@@ -19,7 +19,7 @@ use Rattle.usage_reasons.specs.declared.cause.Cause.{Cause}
 use Rattle.usage_reasons.specs.declared.reason.Why.{Why}
 use Rattle.usage_reasons.specs.Tokens.{capped}
 use Rattle.usage_reasons.specs.Chains.{written_others}
-use Rattle.usage_reasons.specs.Causes.{Breaks, IsCause}
+use Rattle.usage_reasons.specs.Causes.{Breaks, IsCause, meant}
 
 -- all tokens of a part
 pub itself : (es : List Entry) (part : List Terminal) (at len : ℕ) (why : Why) → at < 2 ^ 64
@@ -34,6 +34,14 @@ itself es part at len why fits count broken = record {
   count = count;
   broken = broken;
 }
+
+-- all tokens of a part, if there is a reason
+pub itself_if : (es : List Entry) (part : List Terminal) (at len : ℕ) (why : Option Why) (found : Option Cause)
+    → found ≡ option_map (meant at len) why → at < 2 ^ 64 → len ≡ capped (length part) → IfSome why (Breaks es part)
+    → IfSome found (IsCause es part at)
+itself_if es part at len None found is fits count broken = subst (λ o. IfSome o (IsCause es part at)) (sym is) broken
+itself_if es part at len (Some w) found is fits count broken =
+    subst (λ o. IfSome o (IsCause es part at)) (sym is) (itself es part at len w fits count broken)
 
 -- in the tokens before others
 pub on_left : (es : List Entry) (xs ys : List Terminal) (at : ℕ) (c : Cause) → IsCause es xs at c

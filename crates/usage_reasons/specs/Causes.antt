@@ -112,6 +112,10 @@ pub record IsBroken (es : List Entry) (tokens : Tokens) (w : Why) : Type 0 where
   pub count : tokens.len ≡ capped (length part)
   pub broken : Breaks es part w
 
+-- the cause that so many tokens from this one on are, which break a rule for this reason
+abbrev pub meant : ℕ → ℕ → Why → Cause
+meant at len w = record { tokens = record { at = at; len = len }; why = w }
+
 abbrev pub Explains : List Entry → Cause → Type 0
 Explains es cause = IsBroken es cause.tokens cause.why
 

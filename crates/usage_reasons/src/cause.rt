@@ -1,6 +1,7 @@
 //! A cause of a fault: tokens, and why they break a rule.
 
-ghost use Rattle.std.specs.Prelude.{◌≡◌};
+ghost use Rattle.std.specs.Prelude.{◌≡◌, option_map};
+ghost use Rattle.usage_reasons.specs.Causes.{meant};
 
 use crate::reason::{Tokens, Why};
 use program_uses::{CHANNEL_USE, CONSTANT_WANTED, OTHER_ACTUAL, PASSED_TWICE};
@@ -56,8 +57,15 @@ pub(crate) type Found<'a> = Option<Cause<'a>>;
 
 /// This many tokens from this one on break a rule for this reason.
 pub(crate) fn meant<'a>(at: usize, len: usize, why: Why<'a>) -> Cause<'a>
-    ensures { result ≡ record { tokens = record { at = at; len = len }; why = why.entry } }
+    ensures { result ≡ meant at len why.entry }
 {
     let tokens = Tokens { at, len };
     Cause { tokens, why }
+}
+
+/// This many tokens from this one on, if there is a reason for which they break a rule.
+pub(crate) fn meant_if<'a>(at: usize, len: usize, why: Option<Why<'a>>) -> Found<'a>
+    ensures { result ≡ option_map (meant at len) why.entry }
+{
+    Some(meant(at, len, why?))
 }

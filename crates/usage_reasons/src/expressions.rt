@@ -7,7 +7,7 @@ ghost use Rattle.usage_reasons.specs.Causes.{IsCause};
 ghost use Rattle.usage_reasons.specs.Chains.{written_others};
 ghost use Rattle.usage_reasons.specs.Sites.{known_at};
 
-use crate::cause::{Found, Rule, meant};
+use crate::cause::{Found, Rule, meant_if};
 use crate::reason::Sort;
 use crate::site::Site;
 use crate::tokens::{plus, plus_between, width_of, width_of_operand};
@@ -56,41 +56,37 @@ impl<'a> Site<'_, 'a> {
                 right,
             } => {
                 let wanted = paired_type(*operator);
-                if let Some(cause) = self.unfit(at, left, wanted) {
-                    return Some(cause);
-                }
                 let next = plus_between(at, width_of_operand(left));
-                if let Some(cause) = self.unfit(next, right, wanted) {
-                    return Some(cause);
-                }
-                self.other_types(at, expr, left, right)
+                let side = self.unfit(at, left, wanted);
+                let side = side.or(self.unfit(next, right, wanted));
+                side.or(self.other_types(at, expr, left, right))
             }
         }
     }
 
     /// A conversion that breaks the rule, if its operand does not.
-    #[tactic(auto, using(crate::proofs::Places::itself, crate::proofs::Places::after_one))]
+    #[tactic(auto, using(crate::proofs::Places::itself_if, crate::proofs::Places::after_one))]
     fn in_converted(&self, at: usize, to: ValueType, operand: &Operand) -> Found<'a>
         ensures { IfSome result (IsCause (known_at self.now) (written_term (Converted to (term_of operand.now))) at) }
     {
         match self.rule {
             Rule::Types => self.unfit(plus(at, 1), operand, None),
             Rule::Ranges => {
-                let why = self.conversion_fails(to, operand)?;
-                Some(meant(at, plus(1, width_of_operand(operand)), why))
+                let len = plus(1, width_of_operand(operand));
+                meant_if(at, len, self.conversion_fails(to, operand))
             }
             _ => None,
         }
     }
 
     /// An expression that breaks the rule, if its operands alone do not.
-    #[tactic(auto, using(crate::proofs::Places::itself))]
+    #[tactic(auto, using(crate::proofs::Places::itself_if))]
     fn in_whole(&self, at: usize, expr: &Expr) -> Found<'a>
         ensures { IfSome result (IsCause (known_at self.now) (written (expression_of expr.now)) at) }
     {
         match self.rule {
             Rule::Types => self.in_typed(at, expr),
-            Rule::Ranges => Some(meant(at, width_of(expr), self.operator_fails(expr)?)),
+            Rule::Ranges => meant_if(at, width_of(expr), self.operator_fails(expr)),
             _ => None,
         }
     }
@@ -100,10 +96,7 @@ impl<'a> Site<'_, 'a> {
     pub(crate) fn in_expression(&self, at: usize, expr: &Expr) -> Found<'a>
         ensures { IfSome result (IsCause (known_at self.now) (written (expression_of expr.now)) at) }
     {
-        if let Some(cause) = self.in_operands(at, expr) {
-            return Some(cause);
-        }
-        self.in_whole(at, expr)
+        self.in_operands(at, expr).or(self.in_whole(at, expr))
     }
 
     /// The part of an operand of an expression that breaks the rule.
@@ -115,11 +108,8 @@ impl<'a> Site<'_, 'a> {
             Operation::Operand(operand) => self.in_operand(at, operand),
             Operation::Prefix { operand, .. } => self.in_operand(plus(at, 1), operand),
             Operation::Pair { left, right, .. } => {
-                if let Some(cause) = self.in_operand(at, left) {
-                    return Some(cause);
-                }
                 let next = plus_between(at, width_of_operand(left));
-                self.in_operand(next, right)
+                self.in_operand(at, left).or(self.in_operand(next, right))
             }
             Operation::Chain {
                 operator,
@@ -127,15 +117,11 @@ impl<'a> Site<'_, 'a> {
                 second,
                 others,
             } => {
-                if let Some(cause) = self.in_joined(at, *operator, first) {
-                    return Some(cause);
-                }
                 let next = plus_between(at, width_of_operand(first));
-                if let Some(cause) = self.in_joined(next, *operator, second) {
-                    return Some(cause);
-                }
                 let after = plus(next, width_of_operand(second));
-                self.in_others(after, *operator, others)
+                let begun = self.in_joined(at, *operator, first);
+                let two = begun.or(self.in_joined(next, *operator, second));
+                two.or(self.in_others(after, *operator, others))
             }
         }
     }
@@ -160,13 +146,8 @@ impl<'a> Site<'_, 'a> {
     fn in_joined(&self, at: usize, operator: ChainOperator, operand: &Operand) -> Found<'a>
         ensures { IfSome result (IsCause (known_at self.now) (written_term (term_of operand.now)) at) }
     {
-        if let Some(cause) = self.in_operand(at, operand) {
-            return Some(cause);
-        }
-        if self.rule == Rule::Types {
-            return self.unfit(at, operand, Some(operand_type(operator)));
-        }
-        None
+        let wanted = Some(operand_type(operator));
+        self.in_operand(at, operand).or(self.unfit(at, operand, wanted))
     }
 
     /// The part of an operand that breaks the rule.
@@ -182,21 +163,15 @@ impl<'a> Site<'_, 'a> {
             | Operand::MostNeg => None,
             Operand::Name(name) => self.in_name(Sort::Scalar, at, name),
             Operand::Element { name, subscript } => {
-                if let Some(cause) = self.in_element(at, name, subscript) {
-                    return Some(cause);
-                }
                 let next = plus(at, 2);
-                if let Some(cause) = self.in_expression(next, subscript) {
-                    return Some(cause);
-                }
-                self.no_subscript(next, name, subscript)
+                let inner = self.in_expression(next, subscript);
+                let inner = inner.or(self.no_subscript(next, name, subscript));
+                self.in_element(at, name, subscript).or(inner)
             }
             Operand::Bracketed(inner) => self.in_expression(plus(at, 1), inner),
             Operand::Converted { to, operand } => {
-                if let Some(cause) = self.in_operand(plus(at, 1), operand) {
-                    return Some(cause);
-                }
-                self.in_converted(at, *to, operand)
+                let inner = self.in_operand(plus(at, 1), operand);
+                inner.or(self.in_converted(at, *to, operand))
             }
         }
     }

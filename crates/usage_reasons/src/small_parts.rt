@@ -11,7 +11,7 @@ ghost use Rattle.usage_reasons.specs.Causes.{Breaks, IsCause, IsUnfit};
 ghost use Rattle.usage_reasons.specs.Sites.{known_at};
 ghost use Rattle.usage_reasons.specs.Sorts.{is_of_sort, is_constant, elements_in};
 
-use crate::cause::{Found, Rule, meant};
+use crate::cause::{Found, Rule, meant, meant_if};
 use crate::nearest::nearest;
 use crate::reason::{Sort, Why};
 use crate::site::Site;
@@ -109,20 +109,23 @@ impl<'a> Site<'_, 'a> {
     }
 
     /// A name that breaks the rule, where one of this sort is wanted.
-    #[tactic(auto, using(crate::proofs::Places::itself))]
+    #[tactic(auto, using(crate::proofs::Places::itself_if))]
     pub(crate) fn in_name(&self, sort: Sort, at: usize, name: &[u8]) -> Found<'a>
         ensures { IfSome result (IsCause (known_at self.now) (Name name.now ∷ []) at) }
     {
-        Some(meant(at, 1, self.name_breaks(sort, name)?))
+        meant_if(at, 1, self.name_breaks(sort, name))
     }
 
-    /// An operand that has another type than this one, or that is no number if no type is given.
+    /// O11: an operand that has another type than this one, or that is no number if no type is given.
     #[tactic(auto, using(crate::proofs::Causes::unfit_operand))]
     pub(crate) fn unfit(&self, at: usize, operand: &Operand, wanted: Option<ExprType>) -> Found<'a>
         ensures { IfSome result (IsCause (known_at self.now) (written_term (term_of operand.now)) at) }
     {
-        let why = why_unfit(read_operand(self.scope, operand).expr_type, wanted)?;
-        Some(meant(at, width_of_operand(operand), why))
+        if self.rule != Rule::Types {
+            return None;
+        }
+        let found = read_operand(self.scope, operand).expr_type;
+        meant_if(at, width_of_operand(operand), why_unfit(found, wanted))
     }
 
     /// An expression that has another type than this one.
@@ -130,8 +133,8 @@ impl<'a> Site<'_, 'a> {
     pub(crate) fn other_expression(&self, at: usize, expr: &Expr, wanted: ExprType) -> Found<'a>
         ensures { IfSome result (IsCause (known_at self.now) (written (expression_of expr.now)) at) }
     {
-        let why = why_unfit(type_of(self.scope, expr), Some(wanted))?;
-        Some(meant(at, width_of(expr), why))
+        let why = why_unfit(type_of(self.scope, expr), Some(wanted));
+        meant_if(at, width_of(expr), why)
     }
 
     /// Two operands of different types, with what is between them, which is this expression.
@@ -172,15 +175,13 @@ impl<'a> Site<'_, 'a> {
     }
 
     /// A subscript of what has this name that breaks the rule, if no part of it breaks it.
-    #[tactic(auto, using(crate::proofs::Places::itself))]
+    #[tactic(auto, using(crate::proofs::Places::itself_if))]
     pub(crate) fn no_subscript(&self, at: usize, name: &[u8], subscript: &Expr) -> Found<'a>
         ensures { IfSome result (IsCause (known_at self.now) (written (expression_of subscript.now)) at) }
     {
         match self.rule {
             Rule::Types => self.other_expression(at, subscript, ExprType::Int),
-            Rule::Subscripts => {
-                Some(meant(at, width_of(subscript), self.outside(name, subscript)?))
-            }
+            Rule::Subscripts => meant_if(at, width_of(subscript), self.outside(name, subscript)),
             _ => None,
         }
     }

@@ -5,6 +5,7 @@ use Rattle.occam_parser.specs.Views.{expression_of, term_of}
 use Rattle.usage_reasons.specs.Causes.{IsCause}
 use Rattle.usage_reasons.specs.Sites.{known_at}
 use Rattle.usage_reasons.proofs.Places.{in_prefix, in_left, in_right, of_found}
+use Rattle.usage_reasons.proofs.Parts.{first_of}
 use Rattle.usage_reasons.proofs.site.Site.in_typed.Goals as goal
 
 pub returns-in-Prefix : goal.returns-in-Prefix
@@ -17,20 +18,22 @@ returns-in-Prefix c =
     of_found (IsCause es (written_term part) c.plus.result) (IsCause es (written whole) c.args.at) c.unfit.result
     (λ d h. in_prefix es whole op part c.args.at c.plus.result d view c.plus.ensures h) c.unfit.ensures
 
-pub returns-in-Some : goal.returns-in-Some
-returns-in-Some c =
+pub returns-in-Pair : goal.returns-in-Pair
+returns-in-Pair c =
+    let es = known_at c.args.self.now in
+    let op = c.in-Pair.operator in
     let a = term_of c.in-Pair.left in
     let b = term_of c.in-Pair.right in
+    let next = c.plus_between-next.result in
     let whole = expression_of c.args.expr.now in
-    let view : whole ≡ Paired c.in-Pair.operator a b = search (rules, the_lemmas) in
-    in_left (known_at c.args.self.now) whole c.in-Pair.operator a b c.args.at c.in-Some.cause view c.in-Some.ensures
-
-pub returns-in-Some-unfit : goal.returns-in-Some-unfit
-returns-in-Some-unfit c =
-    let a = term_of c.in-Pair.left in
-    let b = term_of c.in-Pair.right in
-    let whole = expression_of c.args.expr.now in
-    let view : whole ≡ Paired c.in-Pair.operator a b = search (rules, the_lemmas) in
-    in_right (known_at c.args.self.now) whole c.in-Pair.operator a b c.args.at c.width_of_operand.result
-    c.plus_between-next.result c.in-Some-unfit.cause view c.width_of_operand.ensures c.plus_between-next.ensures
-    c.in-Some-unfit.ensures
+    let view : whole ≡ Paired op a b = search (rules, the_lemmas) in
+    first_of (IsCause es (written whole) c.args.at) c.or-side.result c.other_types.result c.or.result c.or.ensures
+    (first_of (IsCause es (written whole) c.args.at) c.unfit-side.result c.unfit-in-Pair.result c.or-side.result
+    c.or-side.ensures
+    (of_found (IsCause es (written_term a) c.args.at) (IsCause es (written whole) c.args.at) c.unfit-side.result
+    (λ d h. in_left es whole op a b c.args.at d view h) c.unfit-side.ensures)
+    (of_found (IsCause es (written_term b) next) (IsCause es (written whole) c.args.at) c.unfit-in-Pair.result
+    (λ d h. in_right es whole op a b c.args.at c.width_of_operand.result next d view c.width_of_operand.ensures
+    c.plus_between-next.ensures h)
+    c.unfit-in-Pair.ensures))
+    c.other_types.ensures
