@@ -147,7 +147,8 @@ impl<'a> Site<'_, 'a> {
         ensures { IfSome result (IsCause (known_at self.now) (written_term (term_of operand.now)) at) }
     {
         let wanted = Some(operand_type(operator));
-        self.in_operand(at, operand).or(self.unfit(at, operand, wanted))
+        self.in_operand(at, operand)
+            .or(self.unfit(at, operand, wanted))
     }
 
     /// The part of an operand that breaks the rule.

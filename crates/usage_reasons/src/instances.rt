@@ -80,21 +80,29 @@ impl<'s, 'a> Instance<'s, 'a> {
         })
     }
 
-    /// The part of the instance that breaks a rule of expressions.
-    #[tactic(auto, using(crate::proofs::Parts::of_cause))]
-    pub(crate) fn breaks(&self) -> Found<'a>
-        ensures { IfSome result (Explains (known_at self.now.site)) }
+    /// Why an actual breaks the rule.
+    #[tactic(auto, using(crate::proofs::AtFault::explained_if))]
+    fn in_actual(&self, passed: Passed<'s, 'a>) -> Found<'a>
+        ensures { IfSome result IsAtFault }
     {
-        if self.site.rule == Rule::Names || self.site.rule == Rule::Types {
-            if let Some(cause) = self.site.in_name(Sort::Procedure, 0, self.name) {
-                return Some(cause);
-            }
+        match self.site.rule {
+            Rule::Actuals => self.site.not_taken(passed),
+            Rule::Channels => self.site.misused_actual(passed),
+            Rule::Passing => self.passed_before(passed),
+            _ => self.site.in_passed(passed),
         }
+    }
+
+    /// Why the first of the actuals that break the rule does.
+    fn in_actuals(&self) -> Found<'a>
+        ensures { IfSome result IsAtFault }
+    {
         let mut at = ACTUALS;
         for place in 0..self.actuals.len() {
             let passed = self.passed(place, at)?;
-            if let Some(cause) = self.site.in_passed(passed) {
-                return Some(cause);
+            let found = self.in_actual(passed);
+            if found.is_some() {
+                return found;
             }
             at = plus_between(at, passed.tokens.len);
         }
@@ -103,40 +111,20 @@ impl<'s, 'a> Instance<'s, 'a> {
 
     /// An actual that its parameter does not take, or another number of them than of parameters.
     #[tactic(auto, using(crate::specs::AtFault::other_count))]
-    pub(crate) fn other_actual(&self) -> Found<'a>
+    fn other_actual(&self) -> Found<'a>
         ensures { IfSome result IsAtFault }
     {
         let actuals = self.actuals.len();
         let procedure = self.site.scope.meaning(self.name);
         let parameters = count_of_parameters(self.site.signatures, procedure);
         if actuals == parameters {
-            return self.mispassed();
+            return self.in_actuals();
         }
         let why = Why::OtherCount {
             actuals,
             parameters,
         };
         Some(meant(0, self.site.len, why))
-    }
-
-    /// An actual that may not be passed here: its parameter does not take it, it is a channel, or it is passed twice.
-    pub(crate) fn mispassed(&self) -> Found<'a>
-        ensures { IfSome result IsAtFault }
-    {
-        let mut at = ACTUALS;
-        for place in 0..self.actuals.len() {
-            let passed = self.passed(place, at)?;
-            let found = match self.site.rule {
-                Rule::Actuals => self.site.not_taken(passed),
-                Rule::Channels => self.site.misused_actual(passed),
-                _ => self.passed_before(passed),
-            };
-            if found.is_some() {
-                return found;
-            }
-            at = plus_between(at, passed.tokens.len);
-        }
-        None
     }
 
     /// This actual, if it may not be passed beside one before it.
@@ -152,5 +140,20 @@ impl<'s, 'a> Instance<'s, 'a> {
             at = plus_between(at, first.tokens.len);
         }
         None
+    }
+
+    /// Why the instance breaks the rule.
+    #[tactic(auto, using(crate::proofs::AtFault::caused_if, crate::proofs::Parts::first_of))]
+    pub(crate) fn cause(&self) -> Found<'a>
+        ensures { IfSome result IsAtFault }
+    {
+        match self.site.rule {
+            Rule::Actuals => self.other_actual(),
+            Rule::Names | Rule::Types => {
+                let name = self.site.in_name(Sort::Procedure, 0, self.name);
+                name.or(self.in_actuals())
+            }
+            _ => self.in_actuals(),
+        }
     }
 }

@@ -22,17 +22,17 @@ use usage_checks::Wanted;
 const BASE: usize = 3;
 
 /// What a place has to be: the sort of its name alone and with a subscript, and what is wanted of that.
-type Role = (Sort, Sort, Wanted);
+pub(crate) type Role = (Sort, Sort, Wanted);
 
 /// What something is assigned to or received into.
-const TARGET: Role = (
+pub(crate) const TARGET: Role = (
     Sort::Variable,
     Sort::VariableArray,
     Wanted::Value(ExprType::Int),
 );
 
 /// What is received from or sent to.
-const CHANNEL: Role = (
+pub(crate) const CHANNEL: Role = (
     Sort::Channel,
     Sort::ChannelArray,
     Wanted::Constant(ExprType::Int),
@@ -140,29 +140,14 @@ impl<'a> Site<'_, 'a> {
         Some(meant(at, width_of_place(target), why))
     }
 
-    /// The part of a value that breaks the rule, which goes to a place.
-    fn in_value(&self, place: &Place, value: &Expr) -> Found<'a>
+    /// The part of an assignment or an output that breaks the rule, whose place has to be this.
+    pub(crate) fn in_given(&self, role: Role, place: &Place, value: &Expr) -> Found<'a>
         ensures { IfSome result (Explains (known_at self.now)) }
     {
         let next = plus(width_of_place(place), 1);
-        let inner = self.in_wanted(next, Wanted::Anything, value);
-        inner.or(self.other_value(place, value))
-    }
-
-    /// The part of an assignment that breaks the rule.
-    pub(crate) fn in_assignment(&self, target: &Place, value: &Expr) -> Found<'a>
-        ensures { IfSome result (Explains (known_at self.now)) }
-    {
-        self.in_place(0, TARGET, target)
-            .or(self.in_value(target, value))
-    }
-
-    /// The part of an output that breaks the rule.
-    pub(crate) fn in_sent(&self, channel: &Place, value: &Expr) -> Found<'a>
-        ensures { IfSome result (Explains (known_at self.now)) }
-    {
-        let left = self.in_place(0, CHANNEL, channel);
-        left.or(self.in_value(channel, value))
+        let left = self.in_place(0, role, place);
+        let sides = left.or(self.in_wanted(next, Wanted::Anything, value));
+        sides.or(self.other_value(place, value))
     }
 
     /// The part of an input that breaks the rule, which begins at this token.

@@ -6,6 +6,7 @@ ghost use Rattle.usage_reasons.specs.AtFault.{IsAtFault};
 
 use crate::cause::{Found, Rule, meant};
 use crate::instances::Instance;
+use crate::lines::{CHANNEL, TARGET};
 use crate::reason::Why;
 use occam_parser::{Action, Constant, Expr, Formal, Place, Replicator};
 use program_uses::{Direction, Signature};
@@ -71,10 +72,10 @@ impl<'a> Site<'_, 'a> {
     {
         match action {
             Action::Skip | Action::Stop => None,
-            Action::Assign { target, value } => self.in_assignment(target, value),
+            Action::Assign { target, value } => self.in_given(TARGET, target, value),
             Action::Input { channel, target } => self.in_input(0, channel, target),
             Action::Output { channel, value } => {
-                let sent = self.in_sent(channel, value);
+                let sent = self.in_given(CHANNEL, channel, value);
                 self.or_misused(sent, 0, channel, Direction::Output)
             }
             Action::Instance { name, actuals } => self.or_too_large(self.in_instance(
@@ -92,11 +93,7 @@ impl<'a> Site<'_, 'a> {
             name,
             actuals,
         };
-        match self.rule {
-            Rule::Actuals => instance.other_actual(),
-            Rule::Channels | Rule::Passing => instance.mispassed(),
-            _ => instance.breaks(),
-        }
+        instance.cause()
     }
 
     /// A cause, or that the program goes beyond the size that is gone over, if the line breaks the rule in no other way.
