@@ -22,11 +22,8 @@ fn push_valued<'k>(
         ++ valued_text (shown_text known.entry.name.now) (phrase_text value.entry) (shape_text known.entry.meaning)
         known.entry.line) }
 {
-    push_phrases(
-        text,
-        phrases!("  " (Phrase::Shown(known.name)) " is " value " (" (Phrase::Shape(known.meaning))
-            ", line " (Phrase::Count(known.line)) ")\n"),
-    )
+    push_phrases!(text, "  " (Phrase::Shown(known.name)) " is " value " (" (Phrase::Shape(known.meaning))
+        ", line " (Phrase::Count(known.line)) ")\n")
 }
 
 /// Appends a name of which no value and no range is known.
@@ -34,11 +31,8 @@ fn push_bare(text: &mut String, known: KnownName<'_>) -> Result<(), AllocError>
     ensures { OnOk result (string_bytes text.new ≡ string_bytes text.old
         ++ bare_text (shown_text known.entry.name.now) (shape_text known.entry.meaning) known.entry.line) }
 {
-    push_phrases(
-        text,
-        phrases!("  " (Phrase::Shown(known.name)) " is " (Phrase::Shape(known.meaning)) " (line "
-            (Phrase::Count(known.line)) ")\n"),
-    )
+    push_phrases!(text, "  " (Phrase::Shown(known.name)) " is " (Phrase::Shape(known.meaning)) " (line "
+        (Phrase::Count(known.line)) ")\n")
 }
 
 /// Appends what a name denotes, the range or the value that is known of it, and the line that declares it.

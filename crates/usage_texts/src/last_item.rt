@@ -17,18 +17,14 @@ fn push_no_main(text: &mut String, it: Phrase<'_>, item: LastItem) -> Result<(),
         ++ no_main_text (phrase_text it.entry) item) }
 {
     match item {
-        LastItem::Missing => text.push_str("there is no procedure `main`"),
-        LastItem::Constant => text.push_str(
-            "the last item is a constant, but the procedure `main` was wanted",
-        ),
-        LastItem::OtherName => push_phrases(
+        LastItem::Missing => push_phrases!(text, "there is no procedure `main`"),
+        LastItem::Constant => push_phrases!(
             text,
-            phrases!("the last procedure is " it ", but `main` was wanted"),
+            "the last item is a constant, but the procedure `main` was wanted"
         ),
-        LastItem::NoLink => push_phrases(
-            text,
-            phrases!("the parameter " it " of `main` is no link"),
-        ),
+        LastItem::OtherName =>
+            push_phrases!(text, "the last procedure is " it ", but `main` was wanted"),
+        LastItem::NoLink => push_phrases!(text, "the parameter " it " of `main` is no link"),
     }
 }
 

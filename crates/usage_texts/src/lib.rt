@@ -11,10 +11,11 @@ macro_rules! phrase {
     };
 }
 
-/// The parts of a sentence, each a literal, a name, or in parentheses.
-macro_rules! phrases {
-    ($($part:tt)*) => {
-        &[$(phrase!($part)),*]
+/// Appends the parts of a sentence, each a literal, a name, or in parentheses, by
+/// [`push_phrases`](phrases::push_phrases).
+macro_rules! push_phrases {
+    ($text:expr, $($part:tt)*) => {
+        push_phrases($text, &[$(phrase!($part)),*])
     };
 }
 

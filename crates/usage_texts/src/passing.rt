@@ -39,26 +39,18 @@ pub(crate) fn push_passing_sentence(
         Why::OtherCount {
             actuals,
             parameters,
-        } => push_phrases(
-            text,
-            phrases!((sentence.view.quoted(first_of(sentence.tokens))) " has "
-                (Phrase::Counted(parameters, "parameter")) ", but is passed "
-                (Phrase::Counted(actuals, "actual"))),
-        ),
+        } => push_phrases!(text, (sentence.view.quoted(first_of(sentence.tokens))) " has "
+            (Phrase::Counted(parameters, "parameter")) ", but is passed "
+            (Phrase::Counted(actuals, "actual"))),
         Why::NotTaken {
             parameter,
             found,
             ..
-        } => push_phrases(
-            text,
-            phrases!(it " " (Phrase::Words(unpassed(found))) " to a parameter "
-                (Phrase::Shape(parameter))),
-        ),
-        Why::PassedTwice { first } => push_phrases(
-            text,
-            phrases!(it " is passed twice in one instance, first as "
+        } => push_phrases!(text, it " " (Phrase::Words(unpassed(found))) " to a parameter "
+            (Phrase::Shape(parameter))),
+        Why::PassedTwice { first } =>
+            push_phrases!(text, it " is passed twice in one instance, first as "
                 (sentence.view.quoted(first))),
-        ),
         _ => push_sharing_sentence(text, sentence),
     }
 }

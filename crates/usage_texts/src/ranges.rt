@@ -43,29 +43,21 @@ pub(crate) fn push_range_sentence(
 {
     let it = sentence.meant();
     match sentence.why {
-        Why::Overflow { results, .. } => push_phrases(
-            text,
-            phrases!(it " is " (Phrase::Range(Ends { lo: results.lo, hi: results.hi, })) ", but "
+        Why::Overflow { results, .. } =>
+            push_phrases!(text, it " is " (Phrase::Range(Ends { lo: results.lo, hi: results.hi, })) ", but "
                 (Phrase::Words(numbers_text(ValueType::Int)))),
-        ),
         Why::Division {
             dividend,
             divisor,
             ..
-        } => push_phrases(
-            text,
-            phrases!(it " divides " (range_phrase(dividend)) " by " (range_phrase(divisor)) ", "
+        } =>
+            push_phrases!(text, it " divides " (range_phrase(dividend)) " by " (range_phrase(divisor)) ", "
                 (Phrase::Words(divisor_text(divisor)))),
-        ),
-        Why::ShiftCount { count } => push_phrases(
-            text,
-            phrases!(it " shifts by " (range_phrase(count)) ", but a word is shifted by 0..31"),
-        ),
-        Why::Conversion { to, operand } => push_phrases(
-            text,
-            phrases!(it " converts " (range_phrase(operand)) ", but "
+        Why::ShiftCount { count } =>
+            push_phrases!(text, it " shifts by " (range_phrase(count)) ", but a word is shifted by 0..31"),
+        Why::Conversion { to, operand } =>
+            push_phrases!(text, it " converts " (range_phrase(operand)) ", but "
                 (Phrase::Words(numbers_text(to)))),
-        ),
         _ => push_size_sentence(text, sentence),
     }
 }

@@ -51,25 +51,13 @@ pub(crate) fn push_sentence(text: &mut String, sentence: Sentence<'_, '_>) -> Re
     match sentence.why {
         Why::UnknownName {
             nearest: Some(name),
-        } => push_phrases(
-            text,
-            phrases!(it " is not known here; the nearest name is " (quoted_name(name))),
-        ),
-        Why::UnknownName { nearest: None } => {
-            push_phrases(text, phrases!(it " is not known here"))
-        }
-        Why::DeclaredTwice { first } => push_phrases(
-            text,
-            phrases!(it " is declared twice in one scope, first on line " (Phrase::Count(first))),
-        ),
-        Why::OtherSort { wanted } => push_phrases(
-            text,
-            phrases!(it " is no " (Phrase::Words(sort_text(wanted)))),
-        ),
-        Why::NoConstant => push_phrases(
-            text,
-            phrases!(it " is no constant, but a constant was wanted"),
-        ),
+        } => push_phrases!(text, it " is not known here; the nearest name is " (quoted_name(name))),
+        Why::UnknownName { nearest: None } => { push_phrases!(text, it " is not known here") }
+        Why::DeclaredTwice { first } =>
+            push_phrases!(text, it " is declared twice in one scope, first on line " (Phrase::Count(first))),
+        Why::OtherSort { wanted } =>
+            push_phrases!(text, it " is no " (Phrase::Words(sort_text(wanted)))),
+        Why::NoConstant => push_phrases!(text, it " is no constant, but a constant was wanted"),
         _ => push_type_sentence(text, sentence),
     }
 }

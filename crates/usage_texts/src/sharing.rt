@@ -40,30 +40,24 @@ pub(crate) fn push_sharing_sentence(
             first_deed,
             second,
             second_deed,
-        } => push_phrases(
-            text,
-            phrases!("line " (Phrase::Count(first)) " " (Phrase::Words(deed_text(first_deed))) " "
+        } =>
+            push_phrases!(text, "line " (Phrase::Count(first)) " " (Phrase::Words(deed_text(first_deed))) " "
                 (quoted_name(variable.name)) ", and line " (Phrase::Count(second))
                 ", in another component, " (Phrase::Words(deed_text(second_deed))) " it"),
-        ),
         Why::SharedChannel {
             channel,
             element,
             direction,
             first,
             second,
-        } => push_phrases(
-            text,
-            phrases!("line " (Phrase::Count(first)) " " (Phrase::Words(way_text(direction))) " `"
+        } =>
+            push_phrases!(text, "line " (Phrase::Count(first)) " " (Phrase::Words(way_text(direction))) " `"
                 (Phrase::Spot(channel, element)) "`, and so does line " (Phrase::Count(second))
                 ", in another component"),
-        ),
-        Why::OutsidePar => push_phrases(text, phrases!(it " is used outside a PAR in its scope")),
-        Why::OtherDirection { direction } => push_phrases(
-            text,
-            phrases!("this " (Phrase::Words(way_text(direction))) " " it ", but main only "
+        Why::OutsidePar => push_phrases!(text, it " is used outside a PAR in its scope"),
+        Why::OtherDirection { direction } =>
+            push_phrases!(text, "this " (Phrase::Words(way_text(direction))) " " it ", but main only "
                 (Phrase::Words(rightly(direction))) " it"),
-        ),
         _ => push_last_item_sentence(text, sentence),
     }
 }

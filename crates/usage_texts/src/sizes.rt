@@ -25,11 +25,8 @@ fn last_index(base: i32, count: i32) -> i64
 fn push_last_index(text: &mut String, last: i64) -> Result<(), AllocError>
     ensures { OnOk result (string_bytes text.new ≡ string_bytes text.old ++ last_index_text last) }
 {
-    push_phrases(
-        text,
-        phrases!("the last index is " (Phrase::Number(last)) ", but "
-            (Phrase::Words(numbers_text(ValueType::Int)))),
-    )
+    push_phrases!(text, "the last index is " (Phrase::Number(last)) ", but "
+        (Phrase::Words(numbers_text(ValueType::Int))))
 }
 
 /// Appends that too much is gone over.
@@ -51,22 +48,16 @@ pub(crate) fn push_size_sentence(
 {
     let it = sentence.meant();
     match sentence.why {
-        Why::SizeBelowOne { size } => push_phrases(
-            text,
-            phrases!("the size is " (Phrase::Number(i64::from(size)))
+        Why::SizeBelowOne { size } =>
+            push_phrases!(text, "the size is " (Phrase::Number(i64::from(size)))
                 ", but an array has one element at least"),
-        ),
-        Why::CountBelowZero { count } => push_phrases(
-            text,
-            phrases!("the count is " (Phrase::Number(i64::from(count))) ", but 0 is the least"),
-        ),
+        Why::CountBelowZero { count } =>
+            push_phrases!(text, "the count is " (Phrase::Number(i64::from(count))) ", but 0 is the least"),
         Why::LastIndex { base, count } => push_last_index(text, last_index(base, count)),
-        Why::Outside { size, subscript } => push_phrases(
-            text,
-            phrases!(it " is " (range_phrase(subscript)) ", but the elements of "
+        Why::Outside { size, subscript } =>
+            push_phrases!(text, it " is " (range_phrase(subscript)) ", but the elements of "
                 (sentence.view.quoted(array_before(sentence.tokens))) " are 0.."
                 (Phrase::Number(i64::from(size) - 1))),
-        ),
         _ => push_large(text),
     }
 }

@@ -23,10 +23,7 @@ use word_arithmetic::Range;
 fn push_operand(text: &mut String, right: Range) -> Result<(), AllocError>
     ensures { OnOk result (string_bytes text.new ≡ string_bytes text.old ++ operand_text right) }
 {
-    push_phrases(
-        text,
-        phrases!("  the operand is " (range_phrase(right)) "\n"),
-    )
+    push_phrases!(text, "  the operand is " (range_phrase(right)) "\n")
 }
 
 /// Appends where two operands lie.
@@ -34,10 +31,7 @@ fn push_operand(text: &mut String, right: Range) -> Result<(), AllocError>
 fn push_operands(text: &mut String, left: Range, right: Range) -> Result<(), AllocError>
     ensures { OnOk result (string_bytes text.new ≡ string_bytes text.old ++ operands_text left right) }
 {
-    push_phrases(
-        text,
-        phrases!("  the operands are " (range_phrase(left)) " and " (range_phrase(right)) "\n"),
-    )
+    push_phrases!(text, "  the operands are " (range_phrase(left)) " and " (range_phrase(right)) "\n")
 }
 
 /// Appends what else is known that a reason speaks of: the name that is shared, or the operands.

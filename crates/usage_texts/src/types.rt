@@ -23,38 +23,23 @@ pub(crate) fn push_type_sentence(
 {
     let it = sentence.meant();
     match sentence.why {
-        Why::OtherType { found, wanted } => push_phrases(
-            text,
-            phrases!(it " is " (Phrase::Words(found_text(found))) ", but "
+        Why::OtherType { found, wanted } =>
+            push_phrases!(text, it " is " (Phrase::Words(found_text(found))) ", but "
                 (Phrase::Words(wanted_text(wanted))) " was wanted"),
-        ),
-        Why::NoNumber => push_phrases(
-            text,
-            phrases!(it " is a condition, but a number was wanted"),
-        ),
-        Why::OtherTypes { left, right } => push_phrases(
-            text,
-            phrases!(it " compares " (Phrase::Words(wanted_text(left))) " with "
+        Why::NoNumber => push_phrases!(text, it " is a condition, but a number was wanted"),
+        Why::OtherTypes { left, right } =>
+            push_phrases!(text, it " compares " (Phrase::Words(wanted_text(left))) " with "
                 (Phrase::Words(wanted_text(right)))),
-        ),
         Why::OtherPlaceType {
             found,
             wanted,
             place,
-        } => push_phrases(
-            text,
-            phrases!(it " is " (Phrase::Words(found_text(found))) ", but "
-                (sentence.view.quoted(place)) " is " (Phrase::Words(found_text(wanted)))),
-        ),
-        Why::OtherItems { stated, items } => push_phrases(
-            text,
-            phrases!(it " has " (Phrase::Counted(items, "item")) ", but its size is "
+        } => push_phrases!(text, it " is " (Phrase::Words(found_text(found))) ", but "
+            (sentence.view.quoted(place)) " is " (Phrase::Words(found_text(wanted)))),
+        Why::OtherItems { stated, items } =>
+            push_phrases!(text, it " has " (Phrase::Counted(items, "item")) ", but its size is "
                 (Phrase::Count(stated))),
-        ),
-        Why::TextOfInts => push_phrases(
-            text,
-            phrases!(it " is a table of BYTE, but one of INT was wanted"),
-        ),
+        Why::TextOfInts => push_phrases!(text, it " is a table of BYTE, but one of INT was wanted"),
         _ => push_passing_sentence(text, sentence),
     }
 }

@@ -1,6 +1,12 @@
 use Rattle.usage_texts.specs.Passing.{passing_sentence}
 use Rattle.usage_texts.proofs.passing.push_passing_sentence.Goals as goal
 
+pub returns-in-OtherCount : goal.returns-in-OtherCount
+unfolding passing_sentence
+returns-in-OtherCount c =
+    let first = rw c.first_of.ensures at c.quoted.ensures in
+    rw (c.in-OtherCount.is, ← first) c.push_phrases.ensures
+
 pub returns-in-NotTaken : goal.returns-in-NotTaken
 unfolding passing_sentence
 returns-in-NotTaken c =
