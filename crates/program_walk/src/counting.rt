@@ -1,9 +1,19 @@
 //! What is counted of a procedure, each instance with all that is in its procedure.
 
 use crate::excess::{Excess, Limit};
+use crate::nesting::Around;
+use crate::parts::Depth;
 
 /// The least number of steps that a turn of a loop takes: the instruction that ends it takes four.
 const STEPS_OF_TURN: u64 = 4;
+
+/// The work of an actual, and of each name from before a procedure at an instance of it.
+const PASSING_STEPS: u64 = 400;
+
+const LENDING_STEPS: u64 = 8;
+
+/// As how many processes an instance counts beside those in its procedure.
+const INSTANCE_DEPTH: u64 = 2;
 
 /// What adds up from line to line.
 #[derive(Clone, Copy)]
@@ -146,6 +156,39 @@ impl Counted {
         names: 0,
         excess: None,
     };
+
+    /// Nothing of a procedure, before which so many names are known, but that so much of the constants is read.
+    pub(crate) fn of_procedure(names: u64, reading: u64) -> Counted {
+        Counted {
+            amounts: Amounts::reading(reading),
+            names,
+            ..Counted::NOTHING
+        }
+    }
+
+    /// What comes with an instance of this procedure, with so many actuals, where rows say something of so many variables:
+    /// what is in the procedure, whose rows say that too, and a row of its own.
+    pub(crate) fn amounts_of_instance(&self, actuals: u64, variables: u64) -> Amounts {
+        let passing = actuals.saturating_mul(PASSING_STEPS);
+        let lending = self.names.saturating_mul(LENDING_STEPS);
+        let rows = self.amounts.rows.saturating_add(1);
+        self.amounts.plus(Amounts {
+            rows: 1,
+            entries: rows.saturating_mul(variables),
+            ..Amounts::work(passing.saturating_add(lending))
+        })
+    }
+
+    /// The most that there is at one place of such an instance, in a process that is so deep.
+    pub(crate) fn peaks_of_instance(&self, here: Around, depth: Depth) -> Peaks {
+        let deeper = INSTANCE_DEPTH.saturating_add(self.peaks.processes);
+        Peaks {
+            words: here.words.saturating_add(self.peaks.words),
+            turns: here.turns.saturating_mul(self.peaks.turns),
+            processes: depth.processes.saturating_add(deeper),
+            nesting: depth.pars.saturating_add(self.peaks.nesting),
+        }
+    }
 
     /// A limit that is exceeded, if one is: the first one counts.
     pub(crate) fn note(&mut self, excess: Option<Excess>) {

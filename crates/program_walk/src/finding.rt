@@ -3,13 +3,13 @@
 use crate::counting::{Amounts, Counted, Peaks, earlier};
 use crate::excess::{Excess, Limit};
 use crate::holding::{bytes_of, items_of, names_of, words_of};
-use crate::nesting::Nesting;
+use crate::nesting::{Around, Nesting};
 use crate::parts::{Depth, Part, Visitor};
-use crate::repeating::{count_of, is_tested, pars_of, pars_of_turns, rows_of, rows_of_turns};
+use crate::repeating::{count_of, is_tested};
 use crate::walk::walk_program;
 use occam_parser::{
-    Action, Body, Choice, ConstantValue, Construct, Declaration, Expr, Guard, Item, Names,
-    Replicator, ValueType,
+    Action, Body, Choice, ConstantValue, Construct, Declaration, Expr, Guard, Item, Replicator,
+    ValueType,
 };
 use program_sizes::{
     size_of_action, size_of_condition, size_of_declaration, size_of_guard, size_of_replicator,
@@ -29,14 +29,6 @@ const PROCESS_STEPS: u64 = 40;
 
 const FINDING_STEPS: u64 = 16;
 
-/// The work of an actual, and of each name from before a procedure at an instance of it.
-const PASSING_STEPS: u64 = 400;
-
-const LENDING_STEPS: u64 = 8;
-
-/// As how many processes an instance counts beside those in its procedure.
-const INSTANCE_DEPTH: u64 = 2;
-
 /// What was counted of a program.
 #[derive(Drop)]
 struct Counts {
@@ -55,13 +47,48 @@ struct Counts {
 }
 
 impl Counts {
-    /// A limit that is exceeded, if one is.
-    fn note(&mut self, excess: Option<Excess>) {
-        if self.nesting.here().written == 0 {
-            return;
+    /// Outside of all items.
+    fn new(alloc: Global, is_sequential: bool) -> Counts {
+        Counts {
+            nesting: Nesting::new(alloc),
+            depth: Depth::OUTSIDE,
+            items: 0,
+            counted: Vec::new(alloc),
+            place: 0,
+            is_sequential,
+            complete: true,
         }
+    }
+
+    /// From here on it is counted of another place, of which this is known.
+    fn begin(&mut self, counted: Counted) {
+        self.place = self.counted.len();
+        self.complete &= self.counted.push(counted).is_ok();
+    }
+
+    /// From here on this is around, in the process that is counted.
+    fn enter(&mut self, around: Around) {
+        self.complete &= self.nesting.enter(self.depth.processes, around).is_ok();
+    }
+
+    /// A limit that is exceeded here, if one is, whether or not it is written.
+    fn note_here(&mut self, excess: Option<Excess>) {
         if let Some(counted) = self.counted.get_mut(self.place) {
             counted.note(excess);
+        }
+    }
+
+    /// This comes with a line here, whether or not it is written.
+    fn add_here(&mut self, line: u32, amounts: Amounts, peaks: Peaks) {
+        if let Some(counted) = self.counted.get_mut(self.place) {
+            counted.add(line, amounts, peaks);
+        }
+    }
+
+    /// A limit that is exceeded, if one is.
+    fn note(&mut self, excess: Option<Excess>) {
+        if self.nesting.here().written != 0 {
+            self.note_here(excess);
         }
     }
 
@@ -72,7 +99,7 @@ impl Counts {
 
     /// What comes with a line, each time that it is written, and so many steps of searching, each time that it is gone over
     /// for what is changed.
-    fn add(&mut self, line: u32, amounts: Amounts, peaks: Peaks, searching: u64) {
+    fn add(&mut self, line: u32, amounts: Amounts, mut peaks: Peaks, searching: u64) {
         let here = self.nesting.here();
         if here.written == 0 {
             return;
@@ -80,15 +107,11 @@ impl Counts {
         let searching = searching.saturating_mul(here.searched);
         let mut amounts = amounts.times(here.written).plus(Amounts::work(searching));
         if self.is_sequential {
-            amounts = Amounts {
-                size: 0,
-                work: 0,
-                ..amounts
-            };
+            amounts.size = 0;
+            amounts.work = 0;
+            peaks.processes = 0;
         }
-        if let Some(counted) = self.counted.get_mut(self.place) {
-            counted.add(line, amounts, peaks);
-        }
+        self.add_here(line, amounts, peaks);
     }
 
     /// A line of this size, of which so much is read, and which is so many bytes of code.
@@ -110,9 +133,7 @@ impl Counts {
         }
         let again = u64::from(size).saturating_mul(self.nesting.here().replicators);
         let amounts = Amounts::reading(u64::from(reading).saturating_add(again));
-        if let Some(counted) = self.counted.get_mut(self.place) {
-            counted.add(line, amounts, Peaks::NOTHING);
-        }
+        self.add_here(line, amounts, Peaks::NOTHING);
     }
 
     /// A turn of a replicated `IF` with this choice.
@@ -121,10 +142,8 @@ impl Counts {
             return;
         }
         let turn = work_of_turn(choice);
-        let excess = Excess::of(line, Limit::TurnReading(turn.most), u64::from(turn.work));
-        if let Some(counted) = self.counted.get_mut(self.place) {
-            counted.note(excess);
-        }
+        let limit = Limit::TurnReading(turn.most);
+        self.note_here(Excess::of(line, limit, u64::from(turn.work)));
     }
 
     /// So many rows and `PAR`s.
@@ -138,57 +157,35 @@ impl Counts {
         self.depth = depth;
         self.nesting.leave(depth.processes);
         let peaks = Peaks {
-            processes: self.deep(depth.processes),
+            processes: depth.processes,
             nesting: depth.pars,
             ..Peaks::NOTHING
         };
         self.add(line, Amounts::NOTHING, peaks, PROCESS_STEPS);
     }
 
-    /// So many processes in one another, if their number is bounded.
-    fn deep(&self, processes: u64) -> u64 {
-        if self.is_sequential { 0 } else { processes }
-    }
-
     /// An instance of this procedure, with so many actuals: it takes and exceeds what the procedure does, and has a row
     /// of its own.
-    fn see_instance(&mut self, line: u32, number: u32, actuals: usize) {
+    fn see_instance(&mut self, line: u32, number: u32, actuals: u64) {
         let called = self.counted.get(number as usize + 1).copied();
         let called = called.unwrap_or(Counted::NOTHING);
         let here = self.nesting.here();
-        let passing = (actuals as u64).saturating_mul(PASSING_STEPS);
-        let lending = called.names.saturating_mul(LENDING_STEPS);
-        // Its rows say what is known here too.
-        let rows = called.amounts.rows.saturating_add(1);
-        let amounts = called.amounts.plus(Amounts {
-            rows: 1,
-            entries: rows.saturating_mul(here.variables),
-            ..Amounts::work(passing.saturating_add(lending))
-        });
-        let deeper = INSTANCE_DEPTH.saturating_add(called.peaks.processes);
-        let peaks = Peaks {
-            words: here.words.saturating_add(called.peaks.words),
-            turns: here.turns.saturating_mul(called.peaks.turns),
-            processes: self.deep(self.depth.processes.saturating_add(deeper)),
-            nesting: self.depth.pars.saturating_add(called.peaks.nesting),
-        };
+        let amounts = called.amounts_of_instance(actuals, here.variables);
+        let peaks = called.peaks_of_instance(here, self.depth);
         self.note(called.excess);
         self.add(line, amounts, peaks, 0);
     }
 
     fn see_action(&mut self, scope: &Scope, line: u32, action: &Action) {
-        self.see_line(
-            line,
-            size_of_action(action),
-            reading_of_action(action),
-            bytes_of(action),
-        );
-        self.read(line, size_of_action(action), reading_of_action(action));
+        let size = size_of_action(action);
+        let reading = reading_of_action(action);
+        self.see_line(line, size, reading, bytes_of(action));
+        self.read(line, size, reading);
         match action {
             Action::Stop => self.see_rows(line, 1, 0, Peaks::NOTHING),
             Action::Instance { name, actuals } => {
                 if let Some(Meaning::Proc(number)) = scope.meaning(name) {
-                    self.see_instance(line, number, actuals.len());
+                    self.see_instance(line, number, actuals.len() as u64);
                 }
             }
             Action::Skip | Action::Assign { .. } | Action::Input { .. } | Action::Output { .. } =>
@@ -216,16 +213,15 @@ impl Counts {
         self.count(line, Limit::Items, self.items);
     }
 
-    /// Names that are declared, each with so many words.
-    fn see_names(&mut self, names: &Names, words: u64, variables: u64) {
-        let words = words.saturating_mul(names_of(names));
+    /// Names that are declared, with so many words, of which so many are variables.
+    fn see_names(&mut self, line: u32, words: u64, variables: u64) {
         let around = self.nesting.here().with_names(words, variables);
-        self.complete &= self.nesting.enter(self.depth.processes, around).is_ok();
+        self.enter(around);
         let peaks = Peaks {
             words: around.words,
             ..Peaks::NOTHING
         };
-        self.add(names.line, Amounts::NOTHING, peaks, 0);
+        self.add(line, Amounts::NOTHING, peaks, 0);
     }
 
     fn see_declaration(&mut self, scope: &Scope, line: u32, declaration: &Declaration) {
@@ -235,19 +231,27 @@ impl Counts {
         match declaration {
             Declaration::Constant(constant) => self.see_value(line, &constant.value),
             Declaration::Variables(names) => {
-                let words = words_of(scope, names.value_type, &names.size);
-                self.see_names(names, words, names_of(names));
+                let words = words_of(scope, names.value_type, names);
+                self.see_names(line, words, names_of(names));
             }
             Declaration::Channels(names) => {
-                self.see_names(names, words_of(scope, ValueType::Int, &names.size), 0);
+                self.see_names(line, words_of(scope, ValueType::Int, names), 0);
             }
         }
     }
 
-    /// How much of the constants of a sequential program is read.
-    fn read_of_constants(&self) -> u64 {
-        let constants = self.counted.first().copied();
-        constants.unwrap_or(Counted::NOTHING).amounts.reading
+    /// What was counted of the constants of the program.
+    fn constants(&self) -> Counted {
+        self.counted.first().copied().unwrap_or(Counted::NOTHING)
+    }
+
+    /// The first limit that the constants of the program exceed, or else its last procedure.
+    fn first_excess(&self) -> Result<Option<Excess>, AllocError> {
+        if !self.complete {
+            return Err(AllocError);
+        }
+        let main = self.counted.last().copied().unwrap_or(Counted::NOTHING);
+        Ok(earlier(self.constants().excess, main.excess))
     }
 
     /// An item, before which a scope has so many names.
@@ -261,57 +265,82 @@ impl Counts {
                 self.read(line, 0, reading_of_constant(constant));
             }
             Item::Proc(_) => {
-                self.place = self.counted.len();
-                let counted = Counted {
-                    amounts: Amounts::reading(self.read_of_constants()),
-                    names: scope.len() as u64,
-                    ..Counted::NOTHING
-                };
-                self.complete &= self.counted.push(counted).is_ok();
+                let reading = self.constants().amounts.reading;
+                self.begin(Counted::of_procedure(scope.len() as u64, reading));
             }
         }
     }
 
+    /// So many components of a `PAR`: each of them has a row, and so has its end.
+    fn see_components(&mut self, line: u32, components: u64) {
+        self.count(line, Limit::Components, components);
+        self.see_rows(line, components.saturating_add(1), 1, Peaks::NOTHING);
+    }
+
+    /// So many guards of an `ALT`: each of them has a row, and so has its end.
+    fn see_guards(&mut self, line: u32, guards: u64) {
+        self.count(line, Limit::Guards, guards);
+        self.see_rows(line, guards.saturating_add(1), 0, Peaks::NOTHING);
+    }
+
+    /// An `IF` with so many rows, and at least that of its end.
+    fn see_if(&mut self, line: u32, rows: u64) {
+        self.see_rows(line, rows.max(1), 0, Peaks::NOTHING);
+    }
+
+    /// A loop, with so many turns: it has a row where it begins and one where it ends.
+    fn see_loop(&mut self, line: u32, turns: u64) {
+        let peaks = Peaks {
+            turns,
+            ..Peaks::NOTHING
+        };
+        self.see_rows(line, 2, 0, peaks);
+    }
+
+    /// A construct with what is in it. An `IF` has a row for its end, and one for each choice but the last two, of which
+    /// the last may be TRUE, and SKIP.
     fn see_construct(&mut self, line: u32, construct: &Construct) {
         match construct {
+            Construct::Seq(_) => self.read(line, 1, 1),
             Construct::Par(processes) => {
                 self.read(line, 1, 1);
-                self.count(line, Limit::Components, processes.len() as u64);
+                self.see_components(line, processes.len() as u64);
                 let around = self.nesting.here().with_searches(1);
-                self.complete &= self.nesting.enter(self.depth.processes, around).is_ok();
+                self.enter(around);
+            }
+            Construct::If(choices) => {
+                self.read(line, 1, 1);
+                self.see_if(line, (choices.len() as u64).saturating_sub(1));
             }
             Construct::Alt(branches) => {
                 self.read(line, 1, 1);
-                self.count(line, Limit::Guards, branches.len() as u64);
+                self.see_guards(line, branches.len() as u64);
             }
-            Construct::Seq(_) | Construct::If(_) => self.read(line, 1, 1),
             Construct::Action(_) | Construct::Replicated { .. } => {}
         }
-        self.see_rows(line, rows_of(construct), pars_of(construct), Peaks::NOTHING);
     }
 
     /// A body under a replicator begins.
     fn see_turns(&mut self, scope: &Scope, line: u32, replicator: &Replicator, body: &Body) {
         let count = count_of(scope, &replicator.count);
         let around = self.nesting.here().in_turns(body, count);
-        let mut peaks = Peaks::NOTHING;
         self.read(
             line,
             size_of_replicator(replicator),
             reading_of_replicator(replicator),
         );
         match body {
-            Body::Seq(_) => peaks.turns = around.turns,
-            Body::Par(_) => self.count(line, Limit::Components, count),
+            Body::Seq(_) | Body::Par(_) if count == 0 => {}
+            Body::Seq(_) => self.see_loop(line, around.turns),
+            Body::Par(_) => self.see_components(line, count),
             Body::If(choice) => {
                 self.count(line, Limit::Turns, count);
                 self.read_turn(line, choice);
+                self.see_if(line, count);
             }
-            Body::Alt(_) => self.count(line, Limit::Guards, count),
+            Body::Alt(_) => self.see_guards(line, count),
         }
-        let rows = rows_of_turns(body, count);
-        self.see_rows(line, rows, pars_of_turns(body, count), peaks);
-        self.complete &= self.nesting.enter(self.depth.processes, around).is_ok();
+        self.enter(around);
     }
 }
 
@@ -342,24 +371,9 @@ fn ends_sequential(items: &[Item]) -> bool {
 /// what it calls. That a program which is refused for a limit is above this one is claimed by no contract: of what it
 /// becomes that is counted which there surely is.
 pub fn limit_excess(alloc: Global, items: &[Item]) -> Result<Option<Excess>, AllocError> {
-    let mut counts = Counts {
-        nesting: Nesting::new(alloc),
-        depth: Depth::OUTSIDE,
-        items: 0,
-        counted: Vec::new(alloc),
-        place: 0,
-        is_sequential: ends_sequential(items),
-        complete: true,
-    };
-    counts.counted.push(Counted::NOTHING)?;
-    walk_program(alloc, items, &mut counts)?;
-    if !counts.complete {
-        return Err(AllocError);
-    }
-    let constants = counts.counted.first().copied();
-    let main = counts.counted.last().copied();
-    Ok(earlier(
-        constants.unwrap_or(Counted::NOTHING).excess,
-        main.unwrap_or(Counted::NOTHING).excess,
-    ))
+    let mut counts = Counts::new(alloc, ends_sequential(items));
+    counts.begin(Counted::NOTHING);
+    let walked = walk_program(alloc, items, &mut counts);
+    counts.complete &= walked.is_ok();
+    counts.first_excess()
 }

@@ -5,7 +5,7 @@ use program_uses::size_in;
 use scalar_ranges::Scope;
 
 /// How many words a variable or a channel has, or an array of them.
-pub(crate) fn words_of(scope: &Scope, value_type: ValueType, size: &Option<Expr>) -> u64 {
+fn words_of_one(scope: &Scope, value_type: ValueType, size: &Option<Expr>) -> u64 {
     let Some(size) = size else { return 1 };
     let count = u64::from(size_in(scope, size).unwrap_or(0));
     match value_type {
@@ -26,6 +26,11 @@ pub(crate) fn items_of(value: &ConstantValue) -> u64 {
 /// How many names a line declares.
 pub(crate) fn names_of(names: &Names) -> u64 {
     (names.names.others.len() as u64).saturating_add(1)
+}
+
+/// How many words the variables or the channels have that a line declares.
+pub(crate) fn words_of(scope: &Scope, value_type: ValueType, names: &Names) -> u64 {
+    words_of_one(scope, value_type, &names.size).saturating_mul(names_of(names))
 }
 
 /// How many bytes of code an action has at least: what is stored or sent is pushed before.

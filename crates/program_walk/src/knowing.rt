@@ -2,6 +2,7 @@
 
 use arrayvec::ArrayVec;
 use occam_layout::{Token, TokenKind};
+use reason_texts::push_bytes;
 use scalar_ranges::{Meaning, Scope};
 use std::alloc::AllocError;
 
@@ -10,6 +11,38 @@ const MOST_NAMES: usize = 8;
 
 /// The names of a line that were told.
 type Told<'a> = ArrayVec<&'a [u8], MOST_NAMES>;
+
+/// What is known of a scalar.
+#[derive(Clone, Copy)]
+enum Known {
+    Value(i32),
+    Within { lo: i32, hi: i32 },
+}
+
+/// What is known of a name, if it is that of a scalar.
+fn known_of(scope: &Scope, name: &[u8]) -> Option<Known> {
+    match scope.meaning(name) {
+        Some(
+            Meaning::Constant {
+                value: Some(value),
+                ..
+            },
+        ) => Some(Known::Value(value)),
+        Some(Meaning::Scalar { range, .. }) => Some(Known::Within {
+            lo: range.lo,
+            hi: range.hi,
+        }),
+        _ => None,
+    }
+}
+
+/// Appends what is known of a scalar.
+fn push_values(text: &mut String, known: Known) -> Result<(), AllocError> {
+    match known {
+        Known::Value(value) => write!(text, " is {value}"),
+        Known::Within { lo, hi } => write!(text, " is {lo}..{hi}"),
+    }
+}
 
 /// Whether a name was told.
 fn was_told(told: &[&[u8]], name: &[u8]) -> bool {
@@ -21,12 +54,10 @@ fn was_told(told: &[&[u8]], name: &[u8]) -> bool {
     false
 }
 
-/// Appends a name, apart from the one before it, or from the line. It is made of letters, digits and dots.
+/// Appends a name, apart from the one before it, or from the line.
 fn push_name<'a>(text: &mut String, told: &mut Told<'a>, name: &'a [u8]) -> Result<(), AllocError> {
     text.push_str(if told.is_empty() { "  -- " } else { ", " })?;
-    for byte in name {
-        text.push(char::from(*byte))?;
-    }
+    push_bytes(text, name)?;
     let _ = told.try_push(name);
     Ok(())
 }
@@ -41,21 +72,12 @@ fn push_known<'a>(
     if told.is_full() || was_told(told.as_slice(), name) {
         return Ok(());
     }
-    match scope.meaning(name) {
-        Some(
-            Meaning::Constant {
-                value: Some(value),
-                ..
-            },
-        ) => {
+    match known_of(scope, name) {
+        Some(known) => {
             push_name(text, told, name)?;
-            write!(text, " is {value}")
+            push_values(text, known)
         }
-        Some(Meaning::Scalar { range, .. }) => {
-            push_name(text, told, name)?;
-            write!(text, " is {}..{}", range.lo, range.hi)
-        }
-        _ => Ok(()),
+        None => Ok(()),
     }
 }
 

@@ -38,7 +38,18 @@ fn lines_from<'s, 'a>(lines: &'s [Line<'a>], line: u32) -> &'s [Line<'a>] {
     none
 }
 
-impl Notes<'_, '_> {
+impl<'s, 'a> Notes<'s, 'a> {
+    /// Nothing is noted.
+    fn new(alloc: Global, lines: &'s [Line<'a>], last: u32) -> Notes<'s, 'a> {
+        Notes {
+            alloc,
+            texts: Vec::new(alloc),
+            lines,
+            last,
+            complete: true,
+        }
+    }
+
     /// What is known of the names on a line, but for one. The line has no tokens if it is blank.
     fn known_on(
         &mut self,
@@ -64,6 +75,16 @@ impl Notes<'_, '_> {
         }
         self.texts.push(text)?;
         Ok(())
+    }
+
+    /// The lines of a source up to one, with what was noted.
+    fn listing(&self, source: &[u8], last: u32) -> Result<String, AllocError>
+        ensures { IfOk result (λ text. IsListing source.now last (string_bytes text)) }
+    {
+        if !self.complete {
+            return Err(AllocError);
+        }
+        write_listing(self.alloc, source, &self.texts, last)
     }
 }
 
@@ -138,16 +159,8 @@ pub fn known_lines(
 ) -> Result<String, AllocError>
     ensures { IfOk result (λ text. IsListing source.now last (string_bytes text)) }
 {
-    let mut notes = Notes {
-        alloc,
-        texts: Vec::new(alloc),
-        lines,
-        last,
-        complete: true,
-    };
-    walk_program(alloc, program.items(), &mut notes)?;
-    if !notes.complete {
-        return Err(AllocError);
-    }
-    write_listing(alloc, source, &notes.texts, last)
+    let mut notes = Notes::new(alloc, lines, last);
+    let walked = walk_program(alloc, program.items(), &mut notes);
+    notes.complete &= walked.is_ok();
+    notes.listing(source, last)
 }

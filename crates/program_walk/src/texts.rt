@@ -8,55 +8,51 @@ use occam_layout::Line;
 use reason_texts::{Span, find_line, line_of, line_span, push_block, push_place};
 use std::alloc::{AllocError, Global};
 
-/// What is written of a limit before the count.
-fn before_count(limit: Limit) -> &'static str
-    ensures { result.now ≡ before_count limit }
-{
-    match limit {
-        Limit::Components => "this PAR has ",
-        Limit::Guards => "this ALT has ",
-        Limit::Turns => "this IF has ",
-        Limit::Words => "the variables up to here take ",
-        Limit::Items => "the tables and texts up to here have ",
-        Limit::Rows => "the constructs and instances up to here take ",
-        Limit::Entries => "the rows up to here have ",
-        Limit::Pars => "there are ",
-        Limit::Nesting | Limit::Processes | Limit::Budget => "",
-        Limit::Steps => "the loops here take ",
-        Limit::Bytes => "the code up to here takes ",
-        Limit::Tables => "the code up to here reads ",
-        Limit::Size => "the lines up to here, those of each instance again, have a size of ",
-        Limit::Work => "writing the code up to here takes ",
-        Limit::Reading => "reading the lines up to here, again under each replicator, takes ",
-        Limit::TurnReading(_) => "reading a turn of this IF takes ",
-        Limit::Data => "the code up to here uses ",
-    }
+macro_rules! around {
+    ($before:literal count $after:literal) => {
+        &($before, $after)
+    };
 }
 
-/// What is written of a limit after the count.
-fn after_count(limit: Limit) -> &'static str
-    ensures { result.now ≡ after_count limit }
+/// What is written of a limit around the count.
+fn words_of(limit: Limit) -> &'static (&'static str, &'static str)
+    ensures before { result.now.0.now ≡ before_count limit }
+    ensures after { result.now.1.now ≡ after_count limit }
 {
     match limit {
-        Limit::Components => " components; at most 64 are possible",
-        Limit::Guards => " guards; at most 64 are possible",
-        Limit::Turns => " turns; at most 8191 are possible",
-        Limit::Words => " words; 16378 are possible",
-        Limit::Items => " items; 4096 are possible",
-        Limit::Rows => " rows or more; 8192 are possible",
-        Limit::Entries => " entries or more; 4194304 are possible",
-        Limit::Pars => " PARs up to here; 1024 are possible",
-        Limit::Nesting => " PARs are within one another here; 64 are possible",
-        Limit::Processes => " processes are within one another here; 2048 are possible",
-        Limit::Steps => " steps or more; 4611686018427387904 are possible",
-        Limit::Bytes => " bytes or more; 262143 are possible",
-        Limit::Tables => " tables; 1024 are possible",
-        Limit::Size => " or more; 8388608 is possible",
-        Limit::Work => " steps or more; 400000000 are possible",
-        Limit::Reading => " steps; 25000000 are possible",
-        Limit::TurnReading(_) => " steps; 4096 and four times its size are possible",
-        Limit::Data => " words; 16384 are possible",
-        Limit::Budget => " steps or more are done from here on; 4611686018427387904 are possible",
+        Limit::Components => around!("this PAR has " count " components; at most 64 are possible"),
+        Limit::Guards => around!("this ALT has " count " guards; at most 64 are possible"),
+        Limit::Turns => around!("this IF has " count " turns; at most 8191 are possible"),
+        Limit::Words => around!("the variables up to here take " count
+            " words; 16378 are possible"),
+        Limit::Items => around!("the tables and texts up to here have " count
+            " items; 4096 are possible"),
+        Limit::Rows => around!("the constructs and instances up to here take " count
+            " rows or more; 8192 are possible"),
+        Limit::Entries => around!("the rows up to here have " count
+            " entries or more; 4194304 are possible"),
+        Limit::Pars => around!("there are " count " PARs up to here; 1024 are possible"),
+        Limit::Nesting => around!("" count " PARs are within one another here; 64 are possible"),
+        Limit::Processes => around!("" count
+            " processes are within one another here; 2048 are possible"),
+        Limit::Steps => around!("the loops here take " count
+            " steps or more; 4611686018427387904 are possible"),
+        Limit::Bytes => around!("the code up to here takes " count
+            " bytes or more; 262143 are possible"),
+        Limit::Tables => around!("the code up to here reads " count " tables; 1024 are possible"),
+        Limit::Size =>
+            around!("the lines up to here, those of each instance again, have a size of " count
+            " or more; 8388608 is possible"),
+        Limit::Work => around!("writing the code up to here takes " count
+            " steps or more; 400000000 are possible"),
+        Limit::Reading =>
+            around!("reading the lines up to here, again under each replicator, takes " count
+            " steps; 25000000 are possible"),
+        Limit::TurnReading(_) => around!("reading a turn of this IF takes " count
+            " steps; 4096 and four times its size are possible"),
+        Limit::Data => around!("the code up to here uses " count " words; 16384 are possible"),
+        Limit::Budget => around!("" count
+            " steps or more are done from here on; 4611686018427387904 are possible"),
     }
 }
 
@@ -65,7 +61,7 @@ fn after_count(limit: Limit) -> &'static str
 fn push_limit(text: &mut String, limit: Limit, count: u64) -> Result<(), AllocError>
     ensures { OnOk result (string_bytes text.new ≡ string_bytes text.old ++ limit_words limit count) }
 {
-    let (before, after) = (before_count(limit), after_count(limit));
+    let (before, after) = *words_of(limit);
     write!(text, "{before}{count}{after}")
 }
 

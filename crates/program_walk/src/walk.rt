@@ -35,6 +35,17 @@ fn line_of(declaration: &Declaration) -> u32 {
 }
 
 impl<'a> Walk<'a> {
+    /// Before a program.
+    fn new(alloc: Global) -> Walk<'a> {
+        Walk {
+            alloc,
+            scope: Scope::new(alloc),
+            signatures: Vec::new(alloc),
+            depth: Depth::OUTSIDE,
+            complete: true,
+        }
+    }
+
     /// One name more.
     fn add(&mut self, name: &'a [u8], meaning: Meaning) {
         self.complete &= add_name(&mut self.scope, name, meaning).is_ok();
@@ -52,6 +63,14 @@ impl<'a> Walk<'a> {
     fn add_constant(&mut self, constant: &Constant<'a>) {
         let meaning = constant_meaning(&self.scope, constant.value_type, &constant.value);
         self.add(constant.name, meaning);
+    }
+
+    /// The name of the procedure with this number.
+    fn add_procedure(&mut self, name: &'a [u8], number: usize) {
+        match u32::try_from(number) {
+            Ok(number) => self.add(name, Meaning::Proc(number)),
+            Err(_) => self.complete = false,
+        }
     }
 
     /// The names of a declaration.
@@ -280,15 +299,12 @@ impl<'a> Walk<'a> {
     /// A procedure, and its name.
     fn procedure<V: Visitor>(&mut self, visitor: &mut V, proc: &Proc<'a>) {
         let count = self.scope.len();
-        let number = u32::try_from(self.signatures.len());
+        let number = self.signatures.len();
         self.complete &= add_formals(self.alloc, &mut self.scope, &proc.formals).is_ok();
         self.process(visitor, &proc.body);
         self.scope.leave(count);
         self.sign(proc);
-        match number {
-            Ok(number) => self.add(proc.name, Meaning::Proc(number)),
-            Err(_) => self.complete = false,
-        }
+        self.add_procedure(proc.name, number);
     }
 
     /// An item, with what those after it know of it.
@@ -297,6 +313,22 @@ impl<'a> Walk<'a> {
         match item {
             Item::Constant(constant) => self.add_constant(constant),
             Item::Proc(proc) => self.procedure(visitor, proc),
+        }
+    }
+
+    /// Items, one after the other.
+    fn items<V: Visitor>(&mut self, visitor: &mut V, items: &[Item<'a>]) {
+        for item in items {
+            self.item(visitor, item);
+        }
+    }
+
+    /// Whether memory was enough.
+    fn verdict(&self) -> Result<(), AllocError> {
+        if self.complete {
+            Ok(())
+        } else {
+            Err(AllocError)
         }
     }
 }
@@ -310,19 +342,7 @@ pub(crate) fn walk_program<V: Visitor>(
     items: &[Item],
     visitor: &mut V,
 ) -> Result<(), AllocError> {
-    let mut walk = Walk {
-        alloc,
-        scope: Scope::new(alloc),
-        signatures: Vec::new(alloc),
-        depth: Depth::OUTSIDE,
-        complete: true,
-    };
-    for item in items {
-        walk.item(visitor, item);
-    }
-    if walk.complete {
-        Ok(())
-    } else {
-        Err(AllocError)
-    }
+    let mut walk = Walk::new(alloc);
+    walk.items(visitor, items);
+    walk.verdict()
 }
