@@ -8,10 +8,11 @@ use occam_parser::{
     Body, Branch, Choice, Constant, Construct, Declaration, Expr, Guard, Names, Process, Replicator,
 };
 use program_uses::{
-    channel_meaning, constant_meaning, is_sequence, repeats_of, variable_meaning,
+    Repeats, channel_meaning, constant_meaning, is_sequence, repeats_of, variable_meaning,
     variables_changed, variables_changed_in,
 };
 use scalar_ranges::{Meaning, narrow_by};
+use std::alloc::AllocError;
 use usage_checks::{after_action, after_input};
 
 impl<'a> Walk<'_, 'a> {
@@ -108,9 +109,7 @@ impl<'a> Walk<'_, 'a> {
             return;
         }
         let around = self.position.parallel;
-        self.position.parallel = self.scope.len();
-        let begun = self.scope.begin_par().is_ok();
-        self.complete = self.complete && begun;
+        self.begin_par();
         for process in processes {
             self.component(process);
         }
@@ -123,10 +122,7 @@ impl<'a> Walk<'_, 'a> {
     fn component(&mut self, process: &Process<'a>) {
         let changed = variables_changed(self.alloc, &self.signatures, &mut self.scope, process);
         self.process(process);
-        match changed {
-            Ok(numbers) => self.scope.next_component(&numbers),
-            Err(_) => self.complete = false,
-        }
+        self.next_component(changed);
     }
 
     /// A choice of an `IF`.
@@ -157,40 +153,22 @@ impl<'a> Walk<'_, 'a> {
     #[cycle(walk)]
     fn replicated(&mut self, line: u32, replicator: &Replicator<'a>, body: &Body<'a>) {
         if line == self.fault.line {
-            self.look(line, Part::Replicator(replicator));
-            self.explain_turns(replicator, body);
+            self.explain_turns(line, replicator, body);
             return;
         }
         let around = self.position.parallel;
-        if let Body::Par(_) = body {
-            self.position.parallel = self.scope.len();
-        }
         let is_repeated = self.is_repeated;
-        self.is_repeated = is_repeated || !is_sequence(body);
-        self.turns(line, replicator, body);
-        self.is_repeated = is_repeated;
-        self.position.parallel = around;
-    }
-
-    /// The turns of a body under a replicator.
-    #[cycle(walk)]
-    fn turns(&mut self, line: u32, replicator: &Replicator<'a>, body: &Body<'a>) {
-        let repeats = repeats_of(true, &self.scope, is_sequence(body), replicator);
-        if !repeats.happens {
-            self.begin();
-        }
-        self.begin_turns(replicator, body);
+        let repeats = self.begin_turns(replicator, body);
         for turn in 0..repeats.turns.count {
-            if self.reason.is_some() || !self.complete {
-                return;
+            if self.is_done() {
+                break;
             }
             self.declare(line, replicator.name, repeats.index_in(turn));
             self.turn(body);
         }
-        self.scope.end();
-        if !repeats.happens {
-            self.scope.end();
-        }
+        self.end_turns(repeats);
+        self.is_repeated = is_repeated;
+        self.position.parallel = around;
     }
 
     /// A body in one turn.
@@ -204,26 +182,55 @@ impl<'a> Walk<'_, 'a> {
         }
     }
 
-    /// The turns of a body begin.
-    fn begin_turns(&mut self, replicator: &Replicator<'a>, body: &Body<'a>) {
-        let begun = match body {
-            Body::Seq(_) => {
-                let (alloc, signatures) = (self.alloc, &self.signatures);
-                match variables_changed_in(alloc, signatures, &mut self.scope, replicator, body) {
-                    Ok(numbers) => begin_loop(&mut self.scope, &numbers).is_ok(),
-                    Err(_) => false,
-                }
-            }
-            Body::Par(_) => self.scope.begin_par().is_ok(),
-            Body::If(_) | Body::Alt(_) => self.scope.begin().is_ok(),
-        };
-        self.complete = self.complete && begun;
+    /// The turns of a body under a replicator begin.
+    fn begin_turns(&mut self, replicator: &Replicator<'a>, body: &Body<'a>) -> Repeats {
+        let repeats = repeats_of(true, &self.scope, is_sequence(body), replicator);
+        if !repeats.happens {
+            self.begin();
+        }
+        self.is_repeated |= !repeats.sequential;
+        match body {
+            Body::Seq(_) => self.begin_loop(replicator, body),
+            Body::Par(_) => self.begin_par(),
+            Body::If(_) | Body::Alt(_) => self.begin(),
+        }
+        repeats
+    }
+
+    /// The turns end.
+    fn end_turns(&mut self, repeats: Repeats) {
+        self.scope.end();
+        if !repeats.happens {
+            self.scope.end();
+        }
+    }
+
+    /// A loop begins.
+    fn begin_loop(&mut self, replicator: &Replicator<'a>, body: &Body<'a>) {
+        let (alloc, signatures) = (self.alloc, &self.signatures);
+        match variables_changed_in(alloc, signatures, &mut self.scope, replicator, body) {
+            Ok(numbers) => self.complete &= begin_loop(&mut self.scope, &numbers).is_ok(),
+            Err(_) => self.complete = false,
+        }
+    }
+
+    /// A `PAR` begins.
+    fn begin_par(&mut self) {
+        self.position.parallel = self.scope.len();
+        self.complete &= self.scope.begin_par().is_ok();
+    }
+
+    /// The next component of a `PAR` begins, after one that changes the variables with these numbers.
+    fn next_component(&mut self, changed: Result<Vec<usize>, AllocError>) {
+        match changed {
+            Ok(numbers) => self.scope.next_component(&numbers),
+            Err(_) => self.complete = false,
+        }
     }
 
     /// An `IF` or an `ALT` begins.
     fn begin(&mut self) {
-        let begun = self.scope.begin().is_ok();
-        self.complete = self.complete && begun;
+        self.complete &= self.scope.begin().is_ok();
     }
 
     /// A condition on this line, and then where it holds.

@@ -28,10 +28,7 @@ impl<'a> Walk<'_, 'a> {
         let mut told = None;
         used.collect(&mut told, around, &mut self.scope, &proc.body);
         match signed(self.alloc, parameters, first, &used) {
-            Ok(signature) => {
-                let listed = self.signatures.push(signature).is_ok();
-                self.complete = self.complete && listed;
-            }
+            Ok(signature) => self.complete &= self.signatures.push(signature).is_ok(),
             Err(_) => self.complete = false,
         }
     }

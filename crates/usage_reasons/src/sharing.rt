@@ -6,6 +6,7 @@ ghost use Rattle.usage_reasons.specs.AtFault.{is_left_out, IsAtFault};
 use crate::cause::{Found, meant};
 use crate::known::Names;
 use crate::reason::{Deed, KnownName, Why};
+use crate::site::Part;
 use crate::walk::Walk;
 use occam_parser::{
     Action, Body, Branch, Choice, Construct, Expr, Guard, Place, Process, Replicator,
@@ -107,8 +108,7 @@ impl Sharing {
         }
         let component = self.component;
         if !self.seen.contains_key(&item) {
-            let listed = self.seen.insert(item, Seen { component, line }).is_ok();
-            self.complete = self.complete && listed;
+            self.complete &= self.seen.insert(item, Seen { component, line }).is_ok();
         }
     }
 
@@ -132,7 +132,7 @@ impl Sharing {
         if !self.is_of_variables {
             return;
         }
-        self.complete = self.complete && used.is_complete();
+        self.complete &= used.is_complete();
         for number in 0..self.count {
             if used.contains(Use::Change(number)) {
                 self.add(Use::Change(number), line);
@@ -220,7 +220,7 @@ fn cause_of<'a>(names: Names<'_, 'a>, shared: Option<Shared>) -> Found<'a>
 impl<'a> Walk<'_, 'a> {
     /// What was found to be shared by components of the `PAR` on the line at fault.
     fn explain_shared(&mut self) {
-        self.complete = self.complete && self.sharing.complete;
+        self.complete &= self.sharing.complete;
         let cause = cause_of(self.names(), self.sharing.found);
         self.explain(cause);
     }
@@ -235,8 +235,14 @@ impl<'a> Walk<'_, 'a> {
         self.explain_shared();
     }
 
-    /// What the turns of the `PAR` under a replicator share, which is on the line at fault.
-    pub(crate) fn explain_turns(&mut self, replicator: &Replicator<'a>, body: &Body<'a>) {
+    /// Why a replicator on the line at fault breaks the rule, or what the turns of the `PAR` under it share.
+    pub(crate) fn explain_turns(
+        &mut self,
+        line: u32,
+        replicator: &Replicator<'a>,
+        body: &Body<'a>,
+    ) {
+        self.look(line, Part::Replicator(replicator));
         let number = self.fault.number;
         match body {
             Body::Par(_) if number == SHARED_VARIABLE || number == CHANNEL_USE => {
@@ -255,8 +261,7 @@ impl<'a> Walk<'_, 'a> {
             return;
         }
         let count = self.scope.len();
-        let added = add_outlines(&mut self.scope, &process.declarations).is_ok();
-        self.complete = self.complete && added;
+        self.complete &= add_outlines(&mut self.scope, &process.declarations).is_ok();
         self.share_construct(process.line, &process.construct);
         self.scope.leave(count);
     }
@@ -318,23 +323,33 @@ impl<'a> Walk<'_, 'a> {
     /// What a choice of an `IF` uses.
     #[cycle(share)]
     fn share_choice(&mut self, choice: &Choice<'a>) {
-        let mut used = Uses::new(self.alloc);
-        used.read(&self.scope, &choice.condition);
-        self.sharing.add_uses(&used, choice.line);
+        self.share_condition(choice.line, &choice.condition);
         self.share(&choice.process);
     }
 
     /// What a branch of an `ALT` uses.
     #[cycle(share)]
     fn share_branch(&mut self, branch: &Branch<'a>) {
-        let mut used = Uses::new(self.alloc);
-        used.guard(&self.scope, &branch.guard);
-        self.sharing.add_uses(&used, branch.line);
-        if let Guard::Input { channel, .. } = &branch.guard {
-            self.sharing
-                .add_place(&self.scope, channel, Direction::Input, branch.line);
-        }
+        self.share_guard(branch.line, &branch.guard);
         self.share(&branch.process);
+    }
+
+    /// Which variables a condition uses.
+    fn share_condition(&mut self, line: u32, condition: &Expr) {
+        let mut used = Uses::new(self.alloc);
+        used.read(&self.scope, condition);
+        self.sharing.add_uses(&used, line);
+    }
+
+    /// What a guard uses.
+    fn share_guard(&mut self, line: u32, guard: &Guard) {
+        let mut used = Uses::new(self.alloc);
+        used.guard(&self.scope, guard);
+        self.sharing.add_uses(&used, line);
+        if let Guard::Input { channel, .. } = guard {
+            self.sharing
+                .add_place(&self.scope, channel, Direction::Input, line);
+        }
     }
 
     /// Which variables an action uses.

@@ -80,9 +80,14 @@ impl<'l, 'a> Walk<'l, 'a> {
         }
     }
 
+    /// Whether nothing more is gone over.
+    pub(crate) fn is_done(&self) -> bool {
+        self.reason.is_some() || !self.complete
+    }
+
     /// Whether nothing after this line is gone over.
     pub(crate) fn is_over(&self, line: u32) -> bool {
-        self.reason.is_some() || !self.complete || line > self.fault.line
+        self.is_done() || line > self.fault.line
     }
 
     /// The reason that was found, if memory was enough.
@@ -143,9 +148,8 @@ impl<'l, 'a> Walk<'l, 'a> {
     /// One name more in the scope.
     pub(crate) fn declare(&mut self, line: u32, name: &'a [u8], meaning: Meaning) {
         self.lines.truncate(self.scope.len());
-        let listed = self.lines.push(line).is_ok();
-        let declared = self.scope.declare(Entry { name, meaning }).is_ok();
-        self.complete = self.complete && listed && declared;
+        self.complete &= self.lines.push(line).is_ok();
+        self.complete &= self.scope.declare(Entry { name, meaning }).is_ok();
     }
 
     /// A name that a line declares, of the scope whose first declaration has this number.
